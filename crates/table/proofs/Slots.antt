@@ -13,6 +13,8 @@ use Rattle.first.proofs.Tests.{never, and-split}
 use Rattle.session.specs.declared.record.State.the-variants.{Closed}
 use Rattle.session.specs.declared.record.Session.{Session}
 use Rattle.session.specs.Record.{inUse, free}
+use Rattle.table.specs.declared.end.End.{End}
+use Rattle.table.specs.End.{putOf, changedOf}
 use Rattle.table.specs.Slots.{isOf, holds, sessionOf, slotOf, changed, smallestFrom}
 
 -- the number of an end's slots, as the logic has it of an array
@@ -77,6 +79,9 @@ changed-at sid f xs = at xs ∙ ap (λ (y : Session). set xs (slotOf sid xs) (f 
     at : (l : List Session) → changed sid f l ≡ set l (slotOf sid l) (f (getD l (slotOf sid l) free))
     at [] = refl
     at (x ∷ l) = change-step (isOf sid x) f x l (slotOf sid l) (changed sid f l) (at l)
+
+pub changed-end : (sid : ℕ) (f : Session → Session) (e : End) → changedOf sid f e ≡ putOf (slotOf sid (e .slots)) (f (sessionOf sid (e .slots))) e
+changed-end sid f e = ap (λ (l : List Session). record { role = e .role; up = e .up; slots = l }) (changed-at sid f (e .slots))
 
 -- ---- a session is held exactly where what is found is in use
 

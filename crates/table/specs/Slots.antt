@@ -44,6 +44,11 @@ unfoldable pub lowestFree : List Session → ℕ
 lowestFree [] = 0
 lowestFree (x ∷ xs) = if (inUse (x .state)) (suc (lowestFree xs)) 0
 
+-- there is no free slot
+unfoldable pub full : List Session → Bool
+full [] = true
+full (x ∷ xs) = inUse (x .state) && full xs
+
 -- ---- the smallest SID not in the table: from n on, at most so many further
 
 unfoldable pub smallestFrom : ℕ → ℕ → List Session → ℕ

@@ -1,11 +1,14 @@
+-- Outer loop: what `Seen` says of the slots from i on. Inner loop: the SID is in a slot after i exactly if it is in one from j on.
 use mathlib.Core.Path.{_≡_, refl, sym, ap, _∙_}
-use mathlib.Core.Bool.{true, false}
+use mathlib.Core.Bool.{Bool, true, false}
 use native.Mathlib.Omega.{arith}
 use Prim.Native.Nat.{suc, _+_, _-_, _≤_, _<_}
 use lib.ListN.{length, drop, getD}
 use borrow.Author.Needs.{needs}
 use native.Mathlib.Numerals.{add-one}
 use borrow.Author.Tests.{eq-eqb, ne-eqb, not-true, not-false}
+use lib.Dec.{eqb}
+use Rattle.first.specs.Cases.{if}
 use Rattle.session.specs.Record.{window, payloadLimit, inUse}
 use Rattle.session.specs.Well.{inOrder}
 use Rattle.table.specs.Slots.{holds}
@@ -106,33 +109,35 @@ loop2-again c = let e = c .before .before .before .before .before .before .befor
     let w : 16 ≡ length (e .slots) = search (needs, long) in
     (omega arith, omega arith, c .before .before .before .before .loop2 .inv .2 ∙ holds-on _ (e .slots) (c .before .before .before .before .loop2 .j) (omega arith) ∙ rw (sym (c .before .is-of .ensures) ∙ c .if4 .left))
 
+-- a slot in use, with no later slot of its SID: it is the one asked for or not
+used-turn : (c : tie.After-loop2 Inv-loop2 μ-loop2 Inv-loop μ-loop) (b : Bool)
+    → eqb (getD (c .before .before .before .before .before .before .before .before .before .before .before .args .t1 .slots) (c .before .before .before .before .before .before .before .before .before .loop .i - 1) past .sid) (c .before .before .before .before .before .before .before .before .before .before .before .args .sid) ≡ b
+    → (c .before .before .before .before .before .before .before .before .before .loop .i - 1 ≤ 16)
+    × Seen window payloadLimit (c .before .before .before .before .before .before .before .before .before .before .before .args .t1 .up) (c .before .before .before .before .before .before .before .before .before .before .before .args .t1 .slots) (c .before .before .before .before .before .before .before .before .before .before .before .args .sid)
+    (if b (c .before .before .before .before .before .before .before .before .before .loop .i - 1) (c .before .before .before .before .before .before .before .before .before .loop .slot))
+    (if b (getD (c .before .before .before .before .before .before .before .before .before .before .before .args .t1 .slots) (c .before .before .before .before .before .before .before .before .before .loop .i - 1) past) (c .before .before .before .before .before .before .before .before .before .loop .found))
+    (c .before .before .before .before .before .before .before .before .before .loop .free) (c .before .before .before .before .before .before .before .before .before .loop .i - 1)
+used-turn c b q = let e = c .before .before .before .before .before .before .before .before .before .before .before .args .t1 in
+    let w : 16 ≡ length (e .slots) = search (needs, long) in
+    let n = c .before .before .before .before .before .before .before .before .before .loop .i - 1 in
+    let k : suc n ≡ c .before .before .before .before .before .before .before .before .before .loop .i = omega arith in
+    let s : Seen window payloadLimit (e .up) (e .slots) (c .before .before .before .before .before .before .before .before .before .before .before .args .sid) (c .before .before .before .before .before .before .before .before .before .loop .slot) (c .before .before .before .before .before .before .before .before .before .loop .found) (c .before .before .before .before .before .before .before .before .before .loop .free) (suc n) = rw k (c .before .before .before .before .before .before .before .before .before .loop .inv .1) in
+    let o : inOrder window payloadLimit (getD (e .slots) n past) ≡ true = sym (c .before .before .before .before .before .before .in-order .ensures) ∙ not-false _ (c .before .before .before .before .before .if1 .left) in
+    let u : inUse (getD (e .slots) n past .state) ≡ true = sym (c .before .before .before .before .in-use .ensures) ∙ c .before .before .before .if2 .taken in
+    let c0 : holds (getD (e .slots) n past .sid) (drop (suc n) (e .slots)) ≡ false = ap (λ j. holds (getD (e .slots) n past .sid) (drop j (e .slots))) (sym (add-one n)) ∙ c .before .loop2 .inv .2 ∙ holds-end _ (e .slots) (c .before .loop2 .j) (omega arith) in
+    (omega arith, seen-used window payloadLimit (e .up) (e .slots) (c .before .before .before .before .before .before .before .before .before .before .before .args .sid) n (omega arith) s o u (not-false _ (c .before .before .if3 .left)) c0 b q)
+
 loop-less : tie.Need-loop-less Inv-loop2 μ-loop2 Inv-loop μ-loop
 loop-less c = search needs
 
 loop-again : tie.Need-loop-again Inv-loop2 μ-loop2 Inv-loop μ-loop
-loop-again c = let e = c .before .before .before .before .before .before .before .before .before .before .before .before .args .t1 in
-    let w : 16 ≡ length (e .slots) = search (needs, long) in
-    let n = c .before .before .before .before .before .before .before .before .before .before .loop .i - 1 in
-    let k : suc n ≡ c .before .before .before .before .before .before .before .before .before .before .loop .i = omega arith in
-    let s : Seen window payloadLimit (e .up) (e .slots) (c .before .before .before .before .before .before .before .before .before .before .before .before .args .sid) (c .before .before .before .before .before .before .before .before .before .before .loop .slot) (c .before .before .before .before .before .before .before .before .before .before .loop .found) (c .before .before .before .before .before .before .before .before .before .before .loop .free) (suc n) = rw k (c .before .before .before .before .before .before .before .before .before .before .loop .inv .1) in
-    let o : inOrder window payloadLimit (getD (e .slots) n past) ≡ true = sym (c .before .before .before .before .before .before .before .in-order .ensures) ∙ not-false _ (c .before .before .before .before .before .before .if1 .left) in
-    let u : inUse (getD (e .slots) n past .state) ≡ true = sym (c .before .before .before .before .before .in-use .ensures) ∙ c .before .before .before .before .if2 .taken in
-    let c0 : holds (getD (e .slots) n past .sid) (drop (suc n) (e .slots)) ≡ false = ap (λ j. holds (getD (e .slots) n past .sid) (drop j (e .slots))) (sym (add-one n)) ∙ c .before .before .loop2 .inv .2 ∙ holds-end _ (e .slots) (c .before .before .loop2 .j) (omega arith) in
-    (omega arith, seen-used window payloadLimit (e .up) (e .slots) (c .before .before .before .before .before .before .before .before .before .before .before .before .args .sid) n (omega arith) s o u (not-false _ (c .before .before .before .if3 .left)) c0 true (eq-eqb _ _ (c .if5 .taken)))
+loop-again c = used-turn (c .before) true (eq-eqb _ _ (c .if5 .taken))
 
 loop-less-2 : tie.Need-loop-less-2 Inv-loop2 μ-loop2 Inv-loop μ-loop
 loop-less-2 c = search needs
 
 loop-again-2 : tie.Need-loop-again-2 Inv-loop2 μ-loop2 Inv-loop μ-loop
-loop-again-2 c = let e = c .before .before .before .before .before .before .before .before .before .before .before .before .args .t1 in
-    let w : 16 ≡ length (e .slots) = search (needs, long) in
-    let n = c .before .before .before .before .before .before .before .before .before .before .loop .i - 1 in
-    let k : suc n ≡ c .before .before .before .before .before .before .before .before .before .before .loop .i = omega arith in
-    let s : Seen window payloadLimit (e .up) (e .slots) (c .before .before .before .before .before .before .before .before .before .before .before .before .args .sid) (c .before .before .before .before .before .before .before .before .before .before .loop .slot) (c .before .before .before .before .before .before .before .before .before .before .loop .found) (c .before .before .before .before .before .before .before .before .before .before .loop .free) (suc n) = rw k (c .before .before .before .before .before .before .before .before .before .before .loop .inv .1) in
-    let o : inOrder window payloadLimit (getD (e .slots) n past) ≡ true = sym (c .before .before .before .before .before .before .before .in-order .ensures) ∙ not-false _ (c .before .before .before .before .before .before .if1 .left) in
-    let u : inUse (getD (e .slots) n past .state) ≡ true = sym (c .before .before .before .before .before .in-use .ensures) ∙ c .before .before .before .before .if2 .taken in
-    let c0 : holds (getD (e .slots) n past .sid) (drop (suc n) (e .slots)) ≡ false = ap (λ j. holds (getD (e .slots) n past .sid) (drop j (e .slots))) (sym (add-one n)) ∙ c .before .before .loop2 .inv .2 ∙ holds-end _ (e .slots) (c .before .before .loop2 .j) (omega arith) in
-    (omega arith, seen-used window payloadLimit (e .up) (e .slots) (c .before .before .before .before .before .before .before .before .before .before .before .before .args .sid) n (omega arith) s o u (not-false _ (c .before .before .before .if3 .left)) c0 false (ne-eqb _ _ (c .if5 .left)))
+loop-again-2 c = used-turn (c .before) false (ne-eqb _ _ (c .if5 .left))
 
 loop-less-3 : tie.Need-loop-less-3 Inv-loop2 μ-loop2 Inv-loop μ-loop
 loop-less-3 c = search needs

@@ -1,3 +1,4 @@
+-- Inner loop: the SID n is in a slot from i on. Outer loop: the search from 0 has come to n.
 use borrow.Author.Tests.{not-true, not-false}
 use mathlib.Core.Path.{_≡_, sym, ap, _∙_}
 use mathlib.Core.Bool.{_||_}
