@@ -1,19 +1,16 @@
 -- The test of one record is the plain statement, both ways; and a free record that is all zeros is the free record.
-use Prim.Native.Nat.{ℕ, zero, suc, _<_, _≤_}
+use Prim.Native.Nat.{ℕ, zero, suc, _<_}
 use native.Mathlib.Omega.{arith}
-use mathlib.Core.Path.{_≡_, refl, sym, ap, _∙_}
-use mathlib.Core.Bool.{Bool, true, false, _&&_}
-use mathlib.Core.List.{List, [], _∷_}
-use lib.ListN.{length, getD}
+use mathlib.Core.Path.{_≡_, refl}
+use mathlib.Core.Bool.{Bool, true, false}
+use mathlib.Core.List.{List}
+use lib.ListN.{getD}
 use lib.Dec.{eqb, leb}
 use borrow.Author.Tests.{leb-true, le-leb, eqb-true, eq-eqb}
 use Rattle.first.specs.Cases.{if}
-use Rattle.first.proofs.Tests.{never, and-split, and-both}
-use Rattle.session.specs.declared.record.State.{State}
-use Rattle.session.specs.declared.record.State.the-variants.{Closed, Established, FinSent, FinReceived}
+use Rattle.first.proofs.Tests.{and-split, and-both}
 use Rattle.session.specs.declared.record.Session.{Session}
-use Rattle.session.specs.Counter.{minus}
-use Rattle.session.specs.Record.{window, inUse, free}
+use Rattle.session.specs.Record.{inUse, free}
 use Rattle.session.specs.Well.{four, used, zeros, inOrder, Used, Zeros, InOrder}
 
 -- ---- four lengths

@@ -1,9 +1,10 @@
 -- One session's record (document 01, "An end and its sessions"). In a record s is SeqNumForSend, h HighWaterForSend,
 -- r SeqNumForRecv, g HighWaterForRecv, and lens the four stored payload lengths.
-use Prim.Native.Nat.{ℕ, _%_}
+use Prim.Native.Nat.{ℕ, _%_, _^_, _<_}
+use mathlib.Core.Path.{_≡_}
 use mathlib.Core.Bool.{Bool, true, false}
-use mathlib.Core.List.{List, [], _∷_}
-use lib.ListN.{getD}
+use mathlib.Core.List.{[], _∷_}
+use lib.ListN.{length, getD}
 use Rattle.session.specs.declared.record.State.{State}
 use Rattle.session.specs.declared.record.State.the-variants.{Closed, Established, FinSent, FinReceived}
 use Rattle.session.specs.declared.record.Session.{Session}
@@ -69,3 +70,12 @@ place seqnum = seqnum % 4
 
 abbrev pub lengthAt : ℕ → Session → ℕ
 lengthAt seqnum x = getD (x .lens) (place seqnum) 0
+
+-- every field is a value of its type, as in any record that the code holds; well made bounds the lengths
+pub record Fits (x : Session) : Type 0 where
+  pub sid : x .sid < 2 ^ 16
+  pub s : x .s < 2 ^ 32
+  pub h : x .h < 2 ^ 32
+  pub r : x .r < 2 ^ 32
+  pub g : x .g < 2 ^ 32
+  pub four : length (x .lens) ≡ 4

@@ -4,3 +4,4 @@ pub mod Seen
 pub mod Lowest
 pub mod Smallest
 pub mod Places
+pub mod Kept

@@ -1,16 +1,16 @@
 -- Well made: the test is the plain statement, both ways.
 use Prim.Native.Nat.{ℕ, zero, suc, _<_, zero-le, suc-le-suc}
 use native.Mathlib.Nat.{le-of-suc-le-suc, not-suc-le-zero, zero-lt-suc}
-use mathlib.Core.Path.{_≡_, refl, sym, ap, _∙_}
+use mathlib.Core.Path.{_≡_, refl, sym, _∙_}
 use mathlib.Core.Bool.{Bool, true, false, not, _&&_, _||_}
 use mathlib.Core.List.{List, [], _∷_}
-use lib.ListN.{length, getD, drop}
+use lib.ListN.{length, getD}
 use lib.Dec.{eqb}
 use borrow.Author.Tests.{eqb-true, eq-eqb, not-true}
 use Rattle.first.proofs.Tests.{never, and-split, and-both, is-false, false-not}
 use Rattle.session.specs.declared.record.Session.{Session}
 use Rattle.session.specs.Record.{inUse, free}
-use Rattle.session.specs.Well.{inOrder, InOrder}
+use Rattle.session.specs.Well.{inOrder}
 use Rattle.session.proofs.InOrder.{in-order, order-in}
 use Rattle.table.specs.declared.end.End.{End}
 use Rattle.table.specs.Slots.{isOf, holds}

@@ -1,5 +1,5 @@
 -- One look through the slots, from the last to the first: what is known once those from i on were seen.
-use Prim.Native.Nat.{ℕ, zero, suc, _+_, _<_, _≤_}
+use Prim.Native.Nat.{ℕ, zero, suc, _+_, _<_}
 use native.Mathlib.Omega.{arith}
 use native.Mathlib.Nat.{zero-add}
 use mathlib.Core.Path.{_≡_, refl, sym, ap, _∙_}
@@ -14,10 +14,9 @@ use Rattle.session.specs.declared.record.Session.{Session}
 use Rattle.session.specs.Record.{inUse, free}
 use Rattle.session.specs.Well.{inOrder}
 use Rattle.table.specs.declared.end.End.{End}
-use Rattle.table.specs.declared.scan.Look.{Look}
-use Rattle.table.specs.Slots.{isOf, holds, sessionOf, slotOf, lowestFree}
+use Rattle.table.specs.Slots.{holds, sessionOf, slotOf, lowestFree}
 use Rattle.table.specs.Well.{every, sidsDiffer, isFree, wellMade}
-use Rattle.table.specs.End.{seenAll, seenNothing, lookOf}
+use Rattle.table.specs.End.{seenNothing, lookOf}
 use Rattle.table.proofs.Slots.{past}
 use Rattle.table.proofs.Made.{every-at, parts}
 

@@ -3,7 +3,7 @@ use Prim.Native.Nat.{ℕ, zero, suc, _+_, _<_, _≤_}
 use native.Mathlib.Omega.{arith}
 use native.Mathlib.Decide.{decLt}
 use mathlib.Core.Path.{_≡_, refl, sym, ap, _∙_}
-use mathlib.Core.Bool.{Bool, true, false, _&&_, _||_}
+use mathlib.Core.Bool.{Bool, true, false, _||_}
 use mathlib.Core.List.{List, [], _∷_}
 use lib.ListN.{length}
 use lib.Dec.{eqb}
@@ -91,3 +91,7 @@ smallest-new xs = new-from (length xs) 0 xs (omega arith) (λ k h. absurd (omega
 
 pub smallest-below : (xs : List Session) (k : ℕ) → k < smallestSid xs → holds k xs ≡ true
 smallest-below xs k h = below-from (length xs) 0 xs (λ j l. absurd (omega arith)) k h
+
+-- and it is at most the number of slots
+pub smallest-within : (xs : List Session) → smallestSid xs ≤ length xs
+smallest-within xs = room (smallestSid xs) xs (smallest-below xs)

@@ -1,0 +1,225 @@
+-- A call's answer depends on no other slot: two ends that agree on well made, up and the session with the SID answer alike, emit the same
+-- bytes, and have the same session afterwards. A read's payload and a stored payload lie where the session's slot is, so they ask the same slot too.
+-- Open and SYN depend on role, the free slots and the SIDs in use.
+use Prim.Native.Nat.{ℕ, _+_, _*_}
+use mathlib.Core.Path.{_≡_, refl, sym, ap, _∙_}
+use mathlib.Core.Bool.{Bool, true, false}
+use mathlib.Core.List.{List, [], _∷_, _++_}
+use lib.ListN.{length, getD}
+use lib.Seq.{getD-set-same}
+use lib.Dec.{eqb, ltb}
+use Rattle.first.specs.Cases.{Case, if, first, done}
+use Rattle.wire.specs.declared.header.Header.{Header}
+use Rattle.wire.specs.declared.kind.Flags.{Flags}
+use Rattle.wire.specs.declared.kind.Flags.the-variants.{One, Wrong}
+use Rattle.wire.specs.Packet.{headerLength, readHeader, flagsOf, packetBytes, headerBytes, onto}
+use Rattle.session.specs.declared.record.Session.{Session}
+use Rattle.session.specs.Record.{inUse, free}
+use Rattle.session.specs.Calls.{sentOn, readOn, closedOn}
+use Rattle.session.specs.Taken.{cellOf}
+use Rattle.table.specs.declared.end.Role.{Role}
+use Rattle.table.specs.declared.end.End.{End}
+use Rattle.table.specs.Slots.{holds, sessionOf, slotOf, full, smallestSid}
+use Rattle.table.specs.End.{changedOf}
+use Rattle.table.proofs.Slots.{held, within, session-at, changed-at}
+use Rattle.smp.specs.declared.open.Opened.{Opened}
+use Rattle.smp.specs.declared.send.Sent.{Sent}
+use Rattle.smp.specs.declared.read.Got.{Got}
+use Rattle.smp.specs.declared.close.Closed.{Closed}
+use Rattle.smp.specs.declared.take.Taken.{Taken}
+use Rattle.smp.specs.Calling.{base, good, called, calling, shortStorage}
+use Rattle.smp.specs.Open.{openNumber, openCases, openedEnd, openDone, openRefused, synHeader, openOf, openPacket, OpenPromise}
+use Rattle.smp.specs.Send.{sendNumber, sendCases, dataHeader, sendDone, sendRefused, sendOf, sendPacket, SendPromise}
+use Rattle.smp.specs.Read.{readNumber, readCases, oldestLength, oldestIn, ackOn, readDone, readRefused, readOf, readPayload, readAck, ReadPromise}
+use Rattle.smp.specs.Close.{closeNumber, closeCases, finHeader, closeDone, closeRefused, closeOf, closePacket, ClosePromise}
+use Rattle.smp.specs.Take.{takeNumber, takeCases, packetCases, missing, takenEnd, takeDone, takeRefused, takeFault, takeAnswer, kept, takenStorage, takeOf, takeStorage, TakePromise}
+
+-- the two ends agree on what a call for that SID may see
+pub record Alike (sid : ℕ) (e e' : End) : Type 0 where
+  pub good : good base e ≡ good base e'
+  pub up : e .up ≡ e' .up
+  pub session : sessionOf sid (e .slots) ≡ sessionOf sid (e' .slots)
+
+-- ---- parts of an answer
+
+-- a part of the answer given is that part of the one or the other
+part : {A B : Type 0} (f : A → B) (n : ℕ) (a b : A) {r : A} → r ≡ done n a b → f r ≡ done n (f a) (f b)
+part f n a b p = ap f p ∙ by (eqb n 0)
+  where
+    by : (t : Bool) → f (if t a b) ≡ if t (f a) (f b)
+    by true = refl
+    by false = refl
+
+-- equal parts of equal numbers
+equal : {B : Type 0} {x x' : B} (n n' : ℕ) (a a' b b' : B) → x ≡ done n a b → x' ≡ done n' a' b' → n ≡ n' → a ≡ a' → b ≡ b' → x ≡ x'
+equal n n' a a' b b' p p' q s t = p ∙ ap (λ m. done m a b) q ∙ ap (λ c. done n' c b) s ∙ ap (λ c. done n' a' c) t ∙ sym p'
+
+-- ---- the session's own slot afterwards
+
+own : (sid : ℕ) (f : Session → Session) (e : End) → holds sid (e .slots) ≡ true → getD (changedOf sid f e .slots) (slotOf sid (e .slots)) free ≡ f (sessionOf sid (e .slots))
+own sid f e h =
+    ap (λ (l : List Session). getD l (slotOf sid (e .slots)) free) (changed-at sid f (e .slots))
+    ∙ getD-set-same (e .slots) (slotOf sid (e .slots)) (f (sessionOf sid (e .slots))) free (within sid (e .slots) h)
+
+module _ {sid : ℕ} {e e' : End} (same : Alike sid e e') where
+  holds-alike : holds sid (e .slots) ≡ holds sid (e' .slots)
+  holds-alike = sym (held sid (e .slots)) ∙ ap (λ (x : Session). inUse (x .state)) (same .session) ∙ held sid (e' .slots)
+
+  -- the number, for any cases on one session
+  number-alike : (cs : Session → List Case) → first (calling base e sid ++ cs (sessionOf sid (e .slots))) ≡ first (calling base e' sid ++ cs (sessionOf sid (e' .slots)))
+  number-alike cs =
+      ap (λ (g : Bool). first (called g (e .up) (holds sid (e .slots)) ++ cs (sessionOf sid (e .slots)))) (same .good)
+      ∙ ap (λ (u : Bool). first (called (good base e') u (holds sid (e .slots)) ++ cs (sessionOf sid (e .slots)))) (same .up)
+      ∙ ap (λ (h : Bool). first (called (good base e') (e' .up) h ++ cs (sessionOf sid (e .slots)))) holds-alike
+      ∙ ap (λ (x : Session). first (calling base e' sid ++ cs x)) (same .session)
+
+  -- the slot afterwards, where the session is held
+  after : {A : Type 0} (end : A → End) (f : Session → Session) (n n' : ℕ) (a b a' b' : A) {r r' : A} → r ≡ done n a b → r' ≡ done n' a' b' → n ≡ n'
+      → end a ≡ changedOf sid f e → end b ≡ e → end a' ≡ changedOf sid f e' → end b' ≡ e' → holds sid (e .slots) ≡ true
+      → getD (end r .slots) (slotOf sid (e .slots)) free ≡ getD (end r' .slots) (slotOf sid (e' .slots)) free
+  after end f n n' a b a' b' p p' q x y x' y' h =
+      equal n n' _ _ _ _
+      (part (λ r. getD (end r .slots) (slotOf sid (e .slots)) free) n a b p) (part (λ r. getD (end r .slots) (slotOf sid (e' .slots)) free) n' a' b' p') q
+      (ap (λ d. getD (d .slots) (slotOf sid (e .slots)) free) x ∙ own sid f e h ∙ ap f (same .session)
+      ∙ sym (ap (λ d. getD (d .slots) (slotOf sid (e' .slots)) free) x' ∙ own sid f e' (sym holds-alike ∙ h)))
+      (ap (λ d. getD (d .slots) (slotOf sid (e .slots)) free) y ∙ sym (session-at sid (e .slots)) ∙ same .session
+      ∙ session-at sid (e' .slots) ∙ sym (ap (λ d. getD (d .slots) (slotOf sid (e' .slots)) free) y'))
+
+  pub send-alike : {payload lent exit exit' : List ℕ} {r r' : Sent} → SendPromise e sid payload lent r exit → SendPromise e' sid payload lent r' exit' → holds sid (e .slots) ≡ true
+      → (r .number ≡ r' .number) × (r .length ≡ r' .length) × (exit ≡ exit')
+      × (getD (r .end .slots) (slotOf sid (e .slots)) free ≡ getD (r' .end .slots) (slotOf sid (e' .slots)) free)
+  unfolding sendOf sendPacket sendNumber
+  send-alike {payload} {lent} p p' h =
+      let len = length payload in
+      let n = sendNumber base e sid len (length lent) in
+      let n' = sendNumber base e' sid len (length lent) in
+      let q : n ≡ n' = number-alike (λ x. sendCases base x len (length lent)) in
+      let a = sendDone (headerLength + len) (changedOf sid sentOn e) in
+      let a' = sendDone (headerLength + len) (changedOf sid sentOn e') in
+      let b = sendRefused n e in
+      let b' = sendRefused n' e' in (
+        equal n n' 0 0 n n' (part (λ (r : Sent). r .number) n a b (p .answer)) (part (λ (r : Sent). r .number) n' a' b' (p' .answer)) q refl q,
+        equal n n' (headerLength + len) (headerLength + len) 0 0 (part (λ (r : Sent). r .length) n a b (p .answer)) (part (λ (r : Sent). r .length) n' a' b' (p' .answer)) q refl refl,
+        p .packet
+            ∙ ap (λ o. onto o lent) (equal n n' _ _ [] [] refl refl q (ap (λ x. packetBytes (dataHeader x len) payload) (same .session)) refl)
+            ∙ sym (p' .packet),
+        after (λ (r : Sent). r .end) sentOn n n' a b a' b' (p .answer) (p' .answer) q refl refl refl refl h,
+      )
+
+  pub close-alike : {lent exit exit' : List ℕ} {r r' : Closed} → ClosePromise e sid lent r exit → ClosePromise e' sid lent r' exit' → holds sid (e .slots) ≡ true
+      → (r .number ≡ r' .number) × (r .length ≡ r' .length) × (exit ≡ exit')
+      × (getD (r .end .slots) (slotOf sid (e .slots)) free ≡ getD (r' .end .slots) (slotOf sid (e' .slots)) free)
+  unfolding closeOf closePacket closeNumber
+  close-alike {lent} p p' h =
+      let n = closeNumber base e sid (length lent) in
+      let n' = closeNumber base e' sid (length lent) in
+      let q : n ≡ n' = number-alike (λ x. closeCases x (length lent)) in
+      let a = closeDone (changedOf sid closedOn e) in
+      let a' = closeDone (changedOf sid closedOn e') in
+      let b = closeRefused n e in
+      let b' = closeRefused n' e' in (
+        equal n n' 0 0 n n' (part (λ (r : Closed). r .number) n a b (p .answer)) (part (λ (r : Closed). r .number) n' a' b' (p' .answer)) q refl q,
+        equal n n' headerLength headerLength 0 0 (part (λ (r : Closed). r .length) n a b (p .answer)) (part (λ (r : Closed). r .length) n' a' b' (p' .answer)) q refl refl,
+        p .packet ∙ ap (λ o. onto o lent) (equal n n' _ _ [] [] refl refl q (ap (λ x. headerBytes (finHeader x)) (same .session)) refl) ∙ sym (p' .packet),
+        after (λ (r : Closed). r .end) closedOn n n' a b a' b' (p .answer) (p' .answer) q refl refl refl refl h,
+      )
+
+  pub read-alike : {storage lent lentAck exit exitAck exit' exitAck' : List ℕ} {r r' : Got} → ReadPromise e sid storage lent lentAck r exit exitAck
+      → ReadPromise e' sid storage lent lentAck r' exit' exitAck' → holds sid (e .slots) ≡ true → length (e .slots) ≡ length (e' .slots) → slotOf sid (e .slots) ≡ slotOf sid (e' .slots)
+      → (r .number ≡ r' .number) × (r .payload ≡ r' .payload) × (r .ack ≡ r' .ack) × (exit ≡ exit') × (exitAck ≡ exitAck')
+      × (getD (r .end .slots) (slotOf sid (e .slots)) free ≡ getD (r' .end .slots) (slotOf sid (e' .slots)) free)
+  unfolding readOf readPayload readAck readNumber
+  read-alike {storage} {lent} {lentAck} p p' h long slot =
+      let n = readNumber base e sid (length lent) (length lentAck) (length storage) in
+      let n' = readNumber base e' sid (length lent) (length lentAck) (length storage) in
+      let x = sessionOf sid (e .slots) in
+      let x' = sessionOf sid (e' .slots) in
+      let s : shortStorage base e (length storage) ≡ shortStorage base e' (length storage) = ap (λ k. ltb (length storage) (4 * 512 * k)) long in
+      let q : n ≡ n' =
+      number-alike (λ y. readCases y (length lent) (length lentAck) (shortStorage base e (length storage)))
+      ∙ ap (λ t. first (calling base e' sid ++ readCases x' (length lent) (length lentAck) t)) s in
+      let a = readDone (oldestLength x) (length (ackOn x)) (changedOf sid readOn e) in
+      let a' = readDone (oldestLength x') (length (ackOn x')) (changedOf sid readOn e') in
+      let b = readRefused n e in
+      let b' = readRefused n' e' in (
+        equal n n' 0 0 n n' (part (λ (r : Got). r .number) n a b (p .answer)) (part (λ (r : Got). r .number) n' a' b' (p' .answer)) q refl q,
+        equal n n' _ _ 0 0 (part (λ (r : Got). r .payload) n a b (p .answer)) (part (λ (r : Got). r .payload) n' a' b' (p' .answer)) q (ap oldestLength (same .session)) refl,
+        equal n n' _ _ 0 0 (part (λ (r : Got). r .ack) n a b (p .answer)) (part (λ (r : Got). r .ack) n' a' b' (p' .answer)) q (ap (λ y. length (ackOn y)) (same .session)) refl,
+        p .payload
+            ∙ ap (λ o. onto o lent) (equal n n' _ _ [] [] refl refl q (ap (λ i. oldestIn base i x storage) slot ∙ ap (λ y. oldestIn base (slotOf sid (e' .slots)) y storage) (same .session)) refl)
+            ∙ sym (p' .payload),
+        p .ack ∙ ap (λ o. onto o lentAck) (equal n n' _ _ [] [] refl refl q (ap ackOn (same .session)) refl) ∙ sym (p' .ack),
+        after (λ (r : Got). r .end) readOn n n' a b a' b' (p .answer) (p' .answer) q refl refl refl refl h,
+      )
+
+-- ---- open: role, whether a slot is free, and the smallest SID not in the table
+
+pub open-alike : {e e' : End} {lent exit exit' : List ℕ} {r r' : Opened} → OpenPromise e lent r exit → OpenPromise e' lent r' exit'
+    → good base e ≡ good base e' → e .up ≡ e' .up → e .role ≡ e' .role → full (e .slots) ≡ full (e' .slots) → smallestSid (e .slots) ≡ smallestSid (e' .slots)
+    → (r .number ≡ r' .number) × (r .sid ≡ r' .sid) × (r .length ≡ r' .length) × (exit ≡ exit')
+unfolding openOf openPacket openNumber
+open-alike {e} {e'} {lent} p p' g u ρ f s =
+    let n = openNumber base e (length lent) in
+    let n' = openNumber base e' (length lent) in
+    let q : n ≡ n' =
+    ap (λ t. first (openCases t (e .up) (e .role) (full (e .slots)) (length lent))) g
+    ∙ ap (λ t. first (openCases (good base e') t (e .role) (full (e .slots)) (length lent))) u
+    ∙ ap (λ t. first (openCases (good base e') (e' .up) t (full (e .slots)) (length lent))) ρ
+    ∙ ap (λ t. first (openCases (good base e') (e' .up) (e' .role) t (length lent))) f in
+    let a = openDone (smallestSid (e .slots)) (openedEnd (smallestSid (e .slots)) e) in
+    let a' = openDone (smallestSid (e' .slots)) (openedEnd (smallestSid (e' .slots)) e') in
+    let b = openRefused n e in
+    let b' = openRefused n' e' in (
+      equal n n' 0 0 n n' (part (λ (r : Opened). r .number) n a b (p .answer)) (part (λ (r : Opened). r .number) n' a' b' (p' .answer)) q refl q,
+      equal n n' _ _ 0 0 (part (λ (r : Opened). r .sid) n a b (p .answer)) (part (λ (r : Opened). r .sid) n' a' b' (p' .answer)) q s refl,
+      equal n n' headerLength headerLength 0 0 (part (λ (r : Opened). r .length) n a b (p .answer)) (part (λ (r : Opened). r .length) n' a' b' (p' .answer)) q refl refl,
+      p .packet ∙ ap (λ o. onto o lent) (equal n n' _ _ [] [] refl refl q (ap (λ k. headerBytes (synHeader k)) s) refl) ∙ sym (p' .packet),
+    )
+
+-- ---- take: the session with the packet's SID; role and whether a slot is free, which a SYN asks for; and for a stored payload the slot
+
+-- what take answers, the record apart
+abbrev pub values : Taken → List ℕ
+values r = r .number ∷ r .used ∷ r .kind ∷ r .sid ∷ r .missing ∷ []
+
+-- it doesn't go by the end
+shown : (n : ℕ) (bytes : List ℕ) (e e' : End) → values (takeAnswer n bytes e) ≡ values (takeAnswer n bytes e')
+shown n bytes e e' = by (eqb n 0) (ltb n 20)
+  where
+    by : (t u : Bool)
+        → values (if t (takeDone (readHeader bytes) (takenEnd (flagsOf (readHeader bytes .flags)) (readHeader bytes) e)) (if u (takeRefused n (missing bytes) e) (takeFault n e)))
+        ≡ values (if t (takeDone (readHeader bytes) (takenEnd (flagsOf (readHeader bytes .flags)) (readHeader bytes) e')) (if u (takeRefused n (missing bytes) e') (takeFault n e')))
+    by true u = refl
+    by false true = refl
+    by false false = refl
+
+-- what is stored goes by the session and its slot
+stored : (f : Flags) (e e' : End) (h : Header) (bytes storage : List ℕ) → sessionOf (h .sid) (e .slots) ≡ sessionOf (h .sid) (e' .slots)
+    → slotOf (h .sid) (e .slots) ≡ slotOf (h .sid) (e' .slots) → takenStorage base f e h bytes storage ≡ takenStorage base f e' h bytes storage
+stored (One k) e e' h bytes storage p q =
+    ap (λ (x : Session). kept base (cellOf (x .state) k) (slotOf (h .sid) (e .slots)) h bytes storage) p
+    ∙ ap (λ (i : ℕ). kept base (cellOf (sessionOf (h .sid) (e' .slots) .state) k) i h bytes storage) q
+stored Wrong e e' h bytes storage p q = refl
+
+pub take-alike : {e e' : End} {bytes lent exit exit' : List ℕ} {r r' : Taken} → Alike (readHeader bytes .sid) e e' → TakePromise e bytes lent r exit → TakePromise e' bytes lent r' exit'
+    → e .role ≡ e' .role → full (e .slots) ≡ full (e' .slots) → length (e .slots) ≡ length (e' .slots) → slotOf (readHeader bytes .sid) (e .slots) ≡ slotOf (readHeader bytes .sid) (e' .slots)
+    → (values r ≡ values r') × (exit ≡ exit')
+unfolding takeOf takeStorage takeNumber
+take-alike {e} {e'} {bytes} {lent} same p p' ρ f long slot =
+    let h = readHeader bytes in
+    let n = takeNumber base e bytes (length lent) in
+    let n' = takeNumber base e' bytes (length lent) in
+    let x = sessionOf (h .sid) (e .slots) in
+    let cs : Bool → Bool → Bool → Role → Bool → Bool → Session → ℕ =
+    λ g u s ρ d k y. first (takeCases g u s (length bytes) ++ packetCases base ρ d k y h (length bytes)) in
+    let q : n ≡ n' =
+    ap (λ g. cs g (e .up) (shortStorage base e (length lent)) (e .role) (holds (h .sid) (e .slots)) (full (e .slots)) x) (same .good)
+    ∙ ap (λ u. cs (good base e') u (shortStorage base e (length lent)) (e .role) (holds (h .sid) (e .slots)) (full (e .slots)) x) (same .up)
+    ∙ ap (λ k. cs (good base e') (e' .up) (ltb (length lent) (4 * 512 * k)) (e .role) (holds (h .sid) (e .slots)) (full (e .slots)) x) long
+    ∙ ap (λ t. cs (good base e') (e' .up) (shortStorage base e' (length lent)) t (holds (h .sid) (e .slots)) (full (e .slots)) x) ρ
+    ∙ ap (λ d. cs (good base e') (e' .up) (shortStorage base e' (length lent)) (e' .role) d (full (e .slots)) x) (holds-alike same)
+    ∙ ap (λ k. cs (good base e') (e' .up) (shortStorage base e' (length lent)) (e' .role) (holds (h .sid) (e' .slots)) k x) f
+    ∙ ap (λ y. cs (good base e') (e' .up) (shortStorage base e' (length lent)) (e' .role) (holds (h .sid) (e' .slots)) (full (e' .slots)) y) (same .session) in (
+      ap values (p .answer) ∙ shown n bytes e e' ∙ ap (λ k. values (takeAnswer k bytes e')) q ∙ sym (ap values (p' .answer)),
+      p .storage ∙ equal n n' _ _ lent lent refl refl q (stored (flagsOf (h .flags)) e e' h bytes lent (same .session) slot) refl ∙ sym (p' .storage),
+    )

@@ -1,0 +1,10 @@
+pub mod Matching
+pub mod Exact
+pub mod Demand1
+pub mod One
+pub mod Kept
+pub mod Twelve
+pub mod Own
+pub mod Alike
+pub mod Bench
+pub mod Worked

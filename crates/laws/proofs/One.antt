@@ -1,0 +1,50 @@
+-- One result: two results that a call's promise admits are equal, buffers included.
+use Prim.Native.Nat.{ℕ}
+use mathlib.Core.Path.{_≡_, sym, _∙_}
+use mathlib.Core.List.{List}
+use Rattle.table.specs.declared.end.Role.{Role}
+use Rattle.table.specs.declared.end.End.{End}
+use Rattle.smp.specs.declared.start.Started.{Started}
+use Rattle.smp.specs.declared.open.Opened.{Opened}
+use Rattle.smp.specs.declared.send.Sent.{Sent}
+use Rattle.smp.specs.declared.read.Got.{Got}
+use Rattle.smp.specs.declared.close.Closed.{Closed}
+use Rattle.smp.specs.declared.shutdown.Stopped.{Stopped}
+use Rattle.smp.specs.declared.take.Taken.{Taken}
+use Rattle.smp.specs.Start.{StartPromise}
+use Rattle.smp.specs.Open.{OpenPromise}
+use Rattle.smp.specs.Send.{SendPromise}
+use Rattle.smp.specs.Read.{ReadPromise}
+use Rattle.smp.specs.Close.{ClosePromise}
+use Rattle.smp.specs.Shutdown.{ShutdownPromise}
+use Rattle.smp.specs.Take.{TakePromise}
+
+-- what two things both are
+same : {A : Type 0} {a b c : A} → a ≡ c → b ≡ c → a ≡ b
+same p q = p ∙ sym q
+
+pub start-one : {role : Role} {r r' : Started} → StartPromise role r → StartPromise role r' → r ≡ r'
+start-one p q = same (p .answer) (q .answer)
+
+pub open-one : {e : End} {lent : List ℕ} {r r' : Opened} {exit exit' : List ℕ} → OpenPromise e lent r exit → OpenPromise e lent r' exit' → (r ≡ r') × (exit ≡ exit')
+open-one p q = (same (p .answer) (q .answer), same (p .packet) (q .packet))
+
+pub send-one : {e : End} {sid : ℕ} {payload lent : List ℕ} {r r' : Sent} {exit exit' : List ℕ}
+    → SendPromise e sid payload lent r exit → SendPromise e sid payload lent r' exit' → (r ≡ r') × (exit ≡ exit')
+send-one p q = (same (p .answer) (q .answer), same (p .packet) (q .packet))
+
+pub read-one : {e : End} {sid : ℕ} {storage lent lentAck : List ℕ} {r r' : Got} {exit exitAck exit' exitAck' : List ℕ}
+    → ReadPromise e sid storage lent lentAck r exit exitAck → ReadPromise e sid storage lent lentAck r' exit' exitAck'
+    → (r ≡ r') × (exit ≡ exit') × (exitAck ≡ exitAck')
+read-one p q = (same (p .answer) (q .answer), same (p .payload) (q .payload), same (p .ack) (q .ack))
+
+pub close-one : {e : End} {sid : ℕ} {lent : List ℕ} {r r' : Closed} {exit exit' : List ℕ}
+    → ClosePromise e sid lent r exit → ClosePromise e sid lent r' exit' → (r ≡ r') × (exit ≡ exit')
+close-one p q = (same (p .answer) (q .answer), same (p .packet) (q .packet))
+
+pub shutdown-one : {e : End} {r r' : Stopped} → ShutdownPromise e r → ShutdownPromise e r' → r ≡ r'
+shutdown-one p q = same (p .answer) (q .answer)
+
+pub take-one : {e : End} {bytes lent : List ℕ} {r r' : Taken} {exit exit' : List ℕ}
+    → TakePromise e bytes lent r exit → TakePromise e bytes lent r' exit' → (r ≡ r') × (exit ≡ exit')
+take-one p q = (same (p .answer) (q .answer), same (p .storage) (q .storage))

@@ -1,0 +1,4 @@
+pub mod When
+pub mod Whens
+pub mod Lists
+pub mod Bench

@@ -1,0 +1,9 @@
+pub mod Calling
+pub mod Start
+pub mod Open
+pub mod Send
+pub mod Read
+pub mod Close
+pub mod Shutdown
+pub mod Take
+pub mod TakeParts
