@@ -16,13 +16,12 @@ use Rattle.wire.specs.declared.kind.Kind.{Kind}
 use Rattle.wire.specs.declared.kind.Kind.the-variants.{Syn, Ack, Fin, Data}
 use Rattle.wire.specs.declared.kind.Flags.{Flags}
 use Rattle.wire.specs.declared.kind.Flags.the-variants.{One, Wrong}
-use Rattle.wire.specs.Packet.{headerLength, smidValue, flagsValue, flagsOf, isKind, lengthFits, readHeader}
+use Rattle.wire.specs.Packet.{headerLength, smidValue, flagsValue, flagsOf, isKind, readHeader}
 use Rattle.wire.proofs.Flags.{flags-named, value-of-flags}
 use Rattle.session.specs.declared.record.State.{State}
 use Rattle.session.specs.declared.record.State.the-variants.{Closed, Established, FinSent, FinReceived}
 use Rattle.session.specs.declared.record.Session.{Session}
 use Rattle.session.specs.Record.{window, payloadLimit, established, finSent, finReceived, unread}
-use Rattle.session.specs.Taken.{windowInRange, seqnumInRange}
 use Rattle.table.specs.declared.end.Role.{Role}
 use Rattle.table.specs.declared.end.Role.the-variants.{Client, Server}
 use Rattle.table.specs.declared.end.End.{End}
@@ -44,7 +43,8 @@ use Rattle.smp.specs.Shutdown.{shutdownCases, shutdownNumber, shutdownOf, Shutd
 use Rattle.smp.specs.Take.{isClient, synCases, otherCases, kindCases, packetCases, takeCases, takeNumber, takeAnswer, takeOf, TakePromise}
 use Rattle.laws.specs.When.{When, when, Exactly}
 use Rattle.laws.specs.Whens.{isWell, isUp, isHeld, Short, Enough, openWhens, sendWhens, readWhens, closeWhens, shutdownWhens, synWhens, otherWhens, kindWhens, packetWhens, takeWhens}
-use Rattle.laws.proofs.Matching.{Is, Match, ends, goes, exactly, is, isnt, plain, plainly, below, equal}
+use Rattle.laws.proofs.Plain.{Tells, held, fully, sized, windowed, sequenced, in-established}
+use Rattle.laws.proofs.Matching.{Is, Match, ends, goes, exactly, is, isnt, plainly, below, equal}
 
 -- ---- an answer gives its number
 
@@ -63,12 +63,6 @@ some n p = eqb-false n 0 p
 
 state-is : {n : ℕ} (test : State → Bool) (st : State) → test st ≡ true → ((s : State) → test s ≡ true → s ≡ st) → (s : State) → Is (test s) (when n (s ≡ st) (s ≡ st → ⊥))
 state-is test st p f s = is (test s) (f s) (λ q e. never (sym q ∙ ap test e ∙ p)) (λ a b. b a)
-
-in-established : (s : State) → established s ≡ true → s ≡ Established
-in-established Closed p = never p
-in-established Established p = refl
-in-established FinSent p = never p
-in-established FinReceived p = never p
 
 in-fin-sent : (s : State) → finSent s ≡ true → s ≡ FinSent
 in-fin-sent Closed p = never p
@@ -99,13 +93,20 @@ client : {n : ℕ} (ρ : Role) → Is (isClient ρ) (when n (ρ ≡ Client) (ρ 
 client Client = is true (λ _. refl) (λ p. never (sym p)) (λ p q. never (sym (ap isClient q)))
 client Server = is false (λ p. never p) (λ _. refl) (λ p q. never (ap isClient p))
 
+-- a test by its plain words
+told-is : {n : ℕ} {b : Bool} {P : Type 0} → Tells b P → Is b (when n P (P → ⊥))
+told-is {b = b} t = is b (t .to) (λ p q. never (sym p ∙ t .back q)) (λ p f. f p)
+
+told-not : {n : ℕ} {b : Bool} {P : Type 0} → Tells b P → Is (not b) (when n (P → ⊥) P)
+told-not {b = b} t = isnt b (λ p q. never (sym p ∙ t .back q)) (t .to) (λ f p. f p)
+
 -- ---- 12, 1, 4
 
 well : {n : ℕ} (e : End) → Is (not (good base e)) (when n (WellMade window payloadLimit e → ⊥) (WellMade window payloadLimit e))
 well e = isnt (good base e) (λ p w. never (sym p ∙ tested window payloadLimit e w)) (made window payloadLimit e) (λ f w. f w)
 
 before-call : {cs : List Case} {ws : List When} (e : End) (sid : ℕ) → Match cs ws → Match (calling base e sid ++ cs) (isWell e ∷ isUp e ∷ isHeld e sid ∷ ws)
-before-call e sid m = goes refl (some 12 refl) (well e) (goes refl (some 1 refl) (plainly (e .up)) (goes refl (some 4 refl) (plainly (holds sid (e .slots))) m))
+before-call e sid m = goes refl (some 12 refl) (well e) (goes refl (some 1 refl) (plainly (e .up)) (goes refl (some 4 refl) (told-not (held sid e)) m))
 
 -- ---- open, send, read, close, shutdown
 
@@ -114,7 +115,7 @@ open-match e room =
     goes refl (some 12 refl) (well e)
     (goes refl (some 1 refl) (plainly (e .up))
     (goes refl (some 2 refl) (server (e .role))
-    (goes refl (some 3 refl) (plain (full (e .slots)))
+    (goes refl (some 3 refl) (told-is (fully e))
     (goes refl (some 9 refl) (below room headerLength) ends))))
 
 pub open-exact : {e : End} {lent exit : List ℕ} {r : Opened} → OpenPromise e lent r exit → Exactly (r .number) (openWhens e (length lent))
@@ -209,16 +210,16 @@ fresh-syn q w =
 syn-match : (e : End) (h : Header) → Match (synCases (e .role) (holds (h .sid) (e .slots)) (full (e .slots)) h) (synWhens e h)
 syn-match e h =
     goes refl (some 24 refl) (client (e .role))
-    (goes refl (some 25 refl) (plain (holds (h .sid) (e .slots)))
-    (goes refl (some 26 refl) (plain (full (e .slots)))
+    (goes refl (some 25 refl) (told-is (held (h .sid) e))
+    (goes refl (some 26 refl) (told-is (fully e))
     (goes refl (some 27 refl) (fresh-syn (h .seqnum) (h .wndw)) ends)))
 
 other-match : (k : Kind) (e : End) (h : Header) (x : Session) → Match (otherCases base k (holds (h .sid) (e .slots)) x h) (otherWhens k e h x)
 other-match k e h x =
-    goes refl (some 23 refl) (plainly (holds (h .sid) (e .slots)))
+    goes refl (some 23 refl) (told-not (held (h .sid) e))
     (goes refl (some 30 refl) (state-is finReceived FinReceived refl in-fin-received (x .state))
-    (goes refl (some 28 refl) (plainly (windowInRange window x (h .wndw)))
-    (goes refl (some 29 refl) (plainly (seqnumInRange x k (h .seqnum))) ends)))
+    (goes refl (some 28 refl) (told-not (windowed x (h .wndw)))
+    (goes refl (some 29 refl) (told-not (sequenced x k (h .seqnum))) ends)))
 
 kind-match : (f : Flags) (e : End) (h : Header)
     → Match (kindCases base f (e .role) (holds (h .sid) (e .slots)) (full (e .slots)) (sessionOf (h .sid) (e .slots)) h) (kindWhens f e h)
@@ -240,7 +241,7 @@ packet-match : (e : End) (h : Header) (given : ℕ)
 packet-match e h given =
     goes refl (some 20 refl) (isnt (eqb (h .smid) smidValue) (eqb-false _ _) (eqb-true _ _) (λ f q. f q))
     (goes refl (some 21 refl) (named (h .flags))
-    (goes refl (some 22 refl) (plainly (lengthFits payloadLimit (flagsOf (h .flags)) (h .length)))
+    (goes refl (some 22 refl) (told-not (sized (h .flags) (h .length)))
     (goes refl (some 10 refl) (below given (h .length)) (kind-match (flagsOf (h .flags)) e h))))
 
 take-match : (e : End) (bytes : List ℕ) (storage : ℕ)

@@ -1,4 +1,5 @@
 pub mod Matching
+pub mod Plain
 pub mod Exact
 pub mod Demand1
 pub mod One

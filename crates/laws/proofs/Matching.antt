@@ -3,7 +3,7 @@ use Prim.Native.Nat.{ℕ, _<_, _≤_}
 use native.Mathlib.Omega.{arith}
 use mathlib.Core.Path.{_≡_, refl, sym, _∙_, subst}
 use mathlib.Core.Bool.{Bool, true, false, not}
-use mathlib.Core.List.{List, [], _∷_, _++_}
+use mathlib.Core.List.{List, [], _∷_}
 use lib.Dec.{eqb, ltb}
 use borrow.Author.Tests.{ltb-true, ltb-false, eqb-true, eqb-false, not-true, not-false}
 use Rattle.first.specs.Cases.{Case, _⇒_, if, first}
@@ -20,11 +20,6 @@ pub record Is (b : Bool) (w : When) : Type 0 where
 pub data Match : List Case → List When → Type 1 where
   ends : Match [] []
   goes : {b : Bool} {m : ℕ} {cs : List Case} {w : When} {ws : List When} → m ≡ w .number → (m ≡ 0 → ⊥) → Is b w → Match cs ws → Match (b ⇒ m ∷ cs) (w ∷ ws)
-
--- two matches in a row
-pub joined : {cs ds : List Case} {ws vs : List When} → Match cs ws → Match ds vs → Match (cs ++ ds) (ws ++ vs)
-joined ends n = n
-joined (goes p q i m) n = goes p q i (joined m n)
 
 -- ---- each number exactly in its case
 
@@ -88,10 +83,7 @@ is b {n} {A} {P} f g apart = record { yes = f; no = g; yes-back = by b f g; no-b
 pub isnt : (b : Bool) {n : ℕ} {A P : Type 0} → (b ≡ false → A) → (b ≡ true → P) → (A → P → ⊥) → Is (not b) (when n A P)
 isnt b f g apart = is (not b) (λ p. f (not-true b p)) (λ p. g (not-false b p)) apart
 
--- a test that is said as it stands
-pub plain : (b : Bool) {n : ℕ} → Is b (when n (b ≡ true) (b ≡ false))
-plain b = is b (λ p. p) (λ p. p) (λ p q. never (sym q ∙ p))
-
+-- a test said as it stands
 pub plainly : (b : Bool) {n : ℕ} → Is (not b) (when n (b ≡ false) (b ≡ true))
 plainly b = isnt b (λ p. p) (λ p. p) (λ p q. never (sym p ∙ q))
 

@@ -1,4 +1,5 @@
 pub mod When
+pub mod Plain
 pub mod Whens
 pub mod Lists
 pub mod Bench

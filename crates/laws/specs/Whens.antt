@@ -1,5 +1,4 @@
 -- For each call, when each of its numbers is given, in document 01's words and order (its lists under "Numbers that come back").
--- "no session", "no free slot" and the ranges are the named tests of the crates below; well made, states and sizes stand here in plain words.
 use Prim.Native.Nat.{ℕ, _+_, _≤_, _<_}
 use mathlib.Core.Path.{_≡_}
 use mathlib.Core.Logic.{_⊎_}
@@ -11,18 +10,18 @@ use Rattle.wire.specs.declared.kind.Kind.{Kind}
 use Rattle.wire.specs.declared.kind.Kind.the-variants.{Syn, Ack, Fin, Data}
 use Rattle.wire.specs.declared.kind.Flags.{Flags}
 use Rattle.wire.specs.declared.kind.Flags.the-variants.{One, Wrong}
-use Rattle.wire.specs.Packet.{headerLength, smidValue, flagsValue, flagsOf, lengthFits, readHeader}
+use Rattle.wire.specs.Packet.{headerLength, smidValue, flagsValue, flagsOf, readHeader}
 use Rattle.session.specs.declared.record.State.the-variants.{Established, FinSent, FinReceived}
 use Rattle.session.specs.declared.record.Session.{Session}
 use Rattle.session.specs.Record.{window, payloadLimit, unread}
-use Rattle.session.specs.Taken.{windowInRange, seqnumInRange}
 use Rattle.table.specs.declared.end.Role.the-variants.{Client, Server}
 use Rattle.table.specs.declared.end.End.{End}
-use Rattle.table.specs.Slots.{holds, sessionOf, full}
+use Rattle.table.specs.Slots.{sessionOf}
 use Rattle.table.specs.Well.{WellMade}
 use Rattle.table.specs.Storage.{storageLength}
 use Rattle.smp.specs.Read.{oldestLength}
 use Rattle.laws.specs.When.{When, when}
+use Rattle.laws.specs.Plain.{Held, Full, LengthRight, InWindow, InSequence}
 
 -- 12, the lent record isn't well made; 1, the end is down
 abbrev pub isWell : End → When
@@ -33,7 +32,7 @@ isUp e = when 1 (e .up ≡ false) (e .up ≡ true)
 
 -- 4, no session with that SID
 abbrev pub isHeld : End → ℕ → When
-isHeld e sid = when 4 (holds sid (e .slots) ≡ false) (holds sid (e .slots) ≡ true)
+isHeld e sid = when 4 (Held sid e → ⊥) (Held sid e)
 
 -- 9, the storage is too short
 abbrev pub Short : End → ℕ → Type 0
@@ -48,7 +47,7 @@ openWhens e room =
     isWell e
     ∷ isUp e
     ∷ when 2 (e .role ≡ Server) (e .role ≡ Client)
-    ∷ when 3 (full (e .slots) ≡ true) (full (e .slots) ≡ false)
+    ∷ when 3 (Full e) (Full e → ⊥)
     ∷ when 9 (room < headerLength) (headerLength ≤ room)
     ∷ []
 
@@ -96,18 +95,18 @@ shutdownWhens e = isWell e ∷ isUp e ∷ []
 abbrev pub synWhens : End → Header → List When
 synWhens e h =
     when 24 (e .role ≡ Client) (e .role ≡ Server)
-    ∷ when 25 (holds (h .sid) (e .slots) ≡ true) (holds (h .sid) (e .slots) ≡ false)
-    ∷ when 26 (full (e .slots) ≡ true) (full (e .slots) ≡ false)
+    ∷ when 25 (Held (h .sid) e) (Held (h .sid) e → ⊥)
+    ∷ when 26 (Full e) (Full e → ⊥)
     ∷ when 27 ((h .seqnum ≡ 0) × (h .wndw ≡ window) → ⊥) ((h .seqnum ≡ 0) × (h .wndw ≡ window))
     ∷ []
 
 -- for others 23, 30, 28, 29
 abbrev pub otherWhens : Kind → End → Header → Session → List When
 otherWhens k e h x =
-    when 23 (holds (h .sid) (e .slots) ≡ false) (holds (h .sid) (e .slots) ≡ true)
+    when 23 (Held (h .sid) e → ⊥) (Held (h .sid) e)
     ∷ when 30 (x .state ≡ FinReceived) (x .state ≡ FinReceived → ⊥)
-    ∷ when 28 (windowInRange window x (h .wndw) ≡ false) (windowInRange window x (h .wndw) ≡ true)
-    ∷ when 29 (seqnumInRange x k (h .seqnum) ≡ false) (seqnumInRange x k (h .seqnum) ≡ true)
+    ∷ when 28 (InWindow x (h .wndw) → ⊥) (InWindow x (h .wndw))
+    ∷ when 29 (InSequence x k (h .seqnum) → ⊥) (InSequence x k (h .seqnum))
     ∷ []
 
 abbrev pub kindWhens : Flags → End → Header → List When
@@ -122,7 +121,9 @@ abbrev pub packetWhens : End → Header → ℕ → List When
 packetWhens e h given =
     when 20 (h .smid ≡ smidValue → ⊥) (h .smid ≡ smidValue)
     ∷ when 21 ((k : Kind) → h .flags ≡ flagsValue k → ⊥) ((k : Kind) × (h .flags ≡ flagsValue k))
-    ∷ when 22 (lengthFits payloadLimit (flagsOf (h .flags)) (h .length) ≡ false) (lengthFits payloadLimit (flagsOf (h .flags)) (h .length) ≡ true)
+    ∷ when 22
+    ((k : Kind) × (h .flags ≡ flagsValue k) × LengthRight k (h .length) → ⊥)
+    ((k : Kind) × (h .flags ≡ flagsValue k) × LengthRight k (h .length))
     ∷ when 10 (given < h .length) (h .length ≤ given)
     ∷ kindWhens (flagsOf (h .flags)) e h
 
