@@ -6,18 +6,18 @@ use mathlib.Core.List.{List, [], _∷_, _++_}
 use lib.ListN.{replicate}
 use lib.Dec.{eqb}
 use Rattle.wire.specs.Packet.{readHeader, headerBytes}
-use Rattle.session.specs.declared.record.State.the-variants.{Established}
 use Rattle.session.specs.declared.record.Session.{Session}
-use Rattle.session.specs.Record.{freshOf, free}
+use Rattle.session.specs.Record.{freshOf, statedOf}
 use Rattle.table.specs.declared.end.Role.the-variants.{Server}
 use Rattle.table.specs.declared.end.End.{End}
+use Rattle.table.specs.End.{startOf, putOf}
 use Rattle.smp.specs.Calling.{base}
 use Rattle.smp.specs.Send.{sendOf, sendPacket}
 use Rattle.smp.specs.Take.{takeOf}
 
 -- a server with one session, of SID 5
 abbrev pub with : Session → End
-with x = record { role = Server; up = true; slots = x ∷ replicate 15 free }
+with x = putOf 0 x (startOf Server)
 
 -- a packet's header with these FLAGS, LENGTH, SEQNUM and WNDW
 abbrev pub header : ℕ → ℕ → ℕ → ℕ → List ℕ
@@ -25,11 +25,11 @@ header flags length seqnum wndw = headerBytes (record { smid = 0x53; flags = fla
 
 -- S = 0xffffffff, H = 3
 abbrev pub sending : Session
-sending = record { state = Established; sid = 5; s = 0xffff_ffff; h = 3; r = 0; g = 4; lens = 0 ∷ 0 ∷ 0 ∷ 0 ∷ [] }
+sending = statedOf 5 0xffff_ffff 3 0 4
 
 -- R = 0xfffffffe, G = 2, ESTABLISHED
 abbrev pub taking : Session
-taking = record { state = Established; sid = 5; s = 0; h = 4; r = 0xffff_fffe; g = 2; lens = 0 ∷ 0 ∷ 0 ∷ 0 ∷ [] }
+taking = statedOf 5 0 4 0xffff_fffe 2
 
 -- the answer of take, with storage enough
 abbrev pub gives : Session → List ℕ → ℕ

@@ -17,7 +17,7 @@ use Rattle.table.specs.declared.end.End.{End}
 use Rattle.table.specs.Slots.{holds, sessionOf, slotOf, lowestFree}
 use Rattle.table.specs.Well.{every, sidsDiffer, isFree, wellMade}
 use Rattle.table.specs.End.{seenNothing, lookOf}
-use Rattle.table.proofs.Slots.{past}
+use Rattle.session.proofs.Past.{past}
 use Rattle.table.proofs.Made.{every-at, parts}
 
 pub record Seen (most limit : ℕ) (up : Bool) (xs : List Session) (sid slot : ℕ) (found : Session) (free i : ℕ) : Type 0 where

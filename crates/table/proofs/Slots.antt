@@ -10,9 +10,9 @@ use lib.ListN.{length, length-map, getD, set, drop, drop-of-length-le}
 use lib.Seq.{drop-cons}
 use Rattle.first.specs.Cases.{if}
 use Rattle.first.proofs.Tests.{never, and-split}
-use Rattle.session.specs.declared.record.State.the-variants.{Closed}
 use Rattle.session.specs.declared.record.Session.{Session}
 use Rattle.session.specs.Record.{inUse, free}
+use Rattle.session.proofs.Past.{past}
 use Rattle.table.specs.declared.end.End.{End}
 use Rattle.table.specs.End.{putOf, changedOf}
 use Rattle.table.specs.Slots.{isOf, holds, sessionOf, slotOf, changed, smallestFrom}
@@ -28,10 +28,6 @@ in-range (x ∷ xs) zero a b h = refl
 in-range (x ∷ xs) (suc i) a b h = in-range xs i a b (le-of-suc-le-suc h)
 
 -- ---- slot by slot, as the code goes
-
--- what the logic takes for an element past the end
-abbrev pub past : Session
-past = record { state = Closed; sid = 0; s = 0; h = 0; r = 0; g = 0; lens = [] }
 
 module _ (sid : ℕ) (xs : List Session) (i : ℕ) (h : i < length xs) where
   pub holds-on : holds sid (drop i xs) ≡ isOf sid (getD xs i past) || holds sid (drop (i + 1) xs)

@@ -12,7 +12,8 @@ use Rattle.first.specs.Cases.{if}
 use Rattle.session.specs.Record.{window, payloadLimit, inUse}
 use Rattle.session.specs.Well.{inOrder}
 use Rattle.table.specs.Slots.{holds}
-use Rattle.table.proofs.Slots.{past, long, holds-on, holds-end}
+use Rattle.session.proofs.Past.{past}
+use Rattle.table.proofs.Slots.{long, holds-on, holds-end}
 use Rattle.table.proofs.Seen.{Seen, seen-none, seen-used, seen-free, look-made, look-disordered, look-down, look-clash}
 use Rattle.table.proofs.scan.scan.Statement.{statement}
 use Rattle.table.proofs.scan.scan.Tie as tie
