@@ -1,7 +1,7 @@
 -- A call's answer depends on no other slot: two ends that agree on well made, up and the session with the SID answer alike, emit the same
 -- bytes, and have the same session afterwards. A read's payload and a stored payload lie where the session's slot is, so they ask the same slot too.
 -- Open and SYN depend on role, the free slots and the SIDs in use.
-use Prim.Native.Nat.{ℕ, _+_, _*_}
+use Prim.Native.Nat.{ℕ, _+_}
 use mathlib.Core.Path.{_≡_, refl, sym, ap, _∙_}
 use mathlib.Core.Bool.{Bool, true, false}
 use mathlib.Core.List.{List, [], _∷_, _++_}
@@ -14,12 +14,13 @@ use Rattle.wire.specs.declared.kind.Flags.{Flags}
 use Rattle.wire.specs.declared.kind.Flags.the-variants.{One, Wrong}
 use Rattle.wire.specs.Packet.{headerLength, readHeader, flagsOf, packetBytes, headerBytes, onto}
 use Rattle.session.specs.declared.record.Session.{Session}
-use Rattle.session.specs.Record.{inUse, free}
+use Rattle.session.specs.Record.{payloadLimit, inUse, free}
 use Rattle.session.specs.Calls.{sentOn, readOn, closedOn}
 use Rattle.session.specs.Taken.{cellOf}
 use Rattle.table.specs.declared.end.Role.{Role}
 use Rattle.table.specs.declared.end.End.{End}
 use Rattle.table.specs.Slots.{holds, sessionOf, slotOf, full, smallestSid}
+use Rattle.table.specs.Storage.{storageLength}
 use Rattle.table.specs.End.{changedOf}
 use Rattle.table.proofs.Slots.{held, within, session-at, changed-at}
 use Rattle.smp.specs.declared.open.Opened.{Opened}
@@ -134,7 +135,7 @@ module _ {sid : ℕ} {e e' : End} (same : Alike sid e e') where
       let n' = readNumber base e' sid (length lent) (length lentAck) (length storage) in
       let x = sessionOf sid (e .slots) in
       let x' = sessionOf sid (e' .slots) in
-      let s : shortStorage base e (length storage) ≡ shortStorage base e' (length storage) = ap (λ k. ltb (length storage) (4 * 512 * k)) long in
+      let s : shortStorage base e (length storage) ≡ shortStorage base e' (length storage) = ap (λ k. ltb (length storage) (storageLength payloadLimit k)) long in
       let q : n ≡ n' =
       number-alike (λ y. readCases y (length lent) (length lentAck) (shortStorage base e (length storage)))
       ∙ ap (λ t. first (calling base e' sid ++ readCases x' (length lent) (length lentAck) t)) s in
@@ -215,7 +216,7 @@ take-alike {e} {e'} {bytes} {lent} same p p' ρ f long slot =
     let q : n ≡ n' =
     ap (λ g. cs g (e .up) (shortStorage base e (length lent)) (e .role) (holds (h .sid) (e .slots)) (full (e .slots)) x) (same .good)
     ∙ ap (λ u. cs (good base e') u (shortStorage base e (length lent)) (e .role) (holds (h .sid) (e .slots)) (full (e .slots)) x) (same .up)
-    ∙ ap (λ k. cs (good base e') (e' .up) (ltb (length lent) (4 * 512 * k)) (e .role) (holds (h .sid) (e .slots)) (full (e .slots)) x) long
+    ∙ ap (λ k. cs (good base e') (e' .up) (ltb (length lent) (storageLength payloadLimit k)) (e .role) (holds (h .sid) (e .slots)) (full (e .slots)) x) long
     ∙ ap (λ t. cs (good base e') (e' .up) (shortStorage base e' (length lent)) t (holds (h .sid) (e .slots)) (full (e .slots)) x) ρ
     ∙ ap (λ d. cs (good base e') (e' .up) (shortStorage base e' (length lent)) (e' .role) d (full (e .slots)) x) (holds-alike same)
     ∙ ap (λ k. cs (good base e') (e' .up) (shortStorage base e' (length lent)) (e' .role) (holds (h .sid) (e' .slots)) k x) f

@@ -1,5 +1,5 @@
 -- The tests of the crates below are their plain words, both ways.
-use Prim.Native.Nat.{ℕ, zero, suc, _<_, suc-le-suc}
+use Prim.Native.Nat.{ℕ, zero, suc, _+_, _<_, suc-le-suc}
 use native.Mathlib.Omega.{arith}
 use native.Mathlib.Nat.{le-of-suc-le-suc, not-suc-le-zero, zero-lt-suc}
 use mathlib.Core.Path.{_≡_, refl, sym, ap, _∙_}
@@ -14,7 +14,7 @@ use Rattle.wire.specs.declared.kind.Kind.{Kind}
 use Rattle.wire.specs.declared.kind.Kind.the-variants.{Syn, Ack, Fin, Data}
 use Rattle.wire.specs.declared.kind.Flags.{Flags}
 use Rattle.wire.specs.declared.kind.Flags.the-variants.{One, Wrong}
-use Rattle.wire.specs.Packet.{flagsValue, flagsOf, lengthFits}
+use Rattle.wire.specs.Packet.{headerLength, flagsValue, flagsOf, lengthFits}
 use Rattle.wire.proofs.Flags.{flags-named, value-of-flags}
 use Rattle.session.specs.declared.record.State.{State}
 use Rattle.session.specs.declared.record.State.the-variants.{Closed, Established, FinSent, FinReceived}
@@ -74,12 +74,12 @@ fully e = record { to = all-of (e .slots); back = of-all (e .slots) }
 -- ---- LENGTH, for the kind that FLAGS names
 
 right : (k : Kind) (n : ℕ) → Tells (lengthFits payloadLimit (One k) n) (LengthRight k n)
-right Syn n = record { to = eqb-true n 16; back = eq-eqb n 16 }
-right Ack n = record { to = eqb-true n 16; back = eq-eqb n 16 }
-right Fin n = record { to = eqb-true n 16; back = eq-eqb n 16 }
+right Syn n = record { to = eqb-true n headerLength; back = eq-eqb n headerLength }
+right Ack n = record { to = eqb-true n headerLength; back = eq-eqb n headerLength }
+right Fin n = record { to = eqb-true n headerLength; back = eq-eqb n headerLength }
 right Data n = record {
-  to = λ p. let s = and-split (leb 16 n) (leb n 528) p in (leb-true 16 n (s .0), leb-true n 528 (s .1));
-  back = λ s. and-both (leb 16 n) (leb n 528) (le-leb 16 n (s .0)) (le-leb n 528 (s .1));
+  to = λ p. let s = and-split (leb headerLength n) (leb n (headerLength + payloadLimit)) p in (leb-true headerLength n (s .0), leb-true n (headerLength + payloadLimit) (s .1));
+  back = λ s. and-both (leb headerLength n) (leb n (headerLength + payloadLimit)) (le-leb headerLength n (s .0)) (le-leb n (headerLength + payloadLimit) (s .1));
 }
 
 pub sized : (f n : ℕ) → Tells (lengthFits payloadLimit (flagsOf f) n) ((k : Kind) × (f ≡ flagsValue k) × LengthRight k n)

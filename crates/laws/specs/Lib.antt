@@ -3,3 +3,4 @@ pub mod Plain
 pub mod Whens
 pub mod Lists
 pub mod Bench
+pub mod Worked

@@ -35,6 +35,7 @@ use Rattle.table.proofs.Lowest.{full-lowest}
 use Rattle.smp.specs.declared.take.Act.{Act}
 use Rattle.smp.specs.declared.take.Act.the-variants.{Stop, Begin, Do}
 use Rattle.smp.specs.declared.take.Taken.{Taken}
+use Rattle.smp.proofs.Looked as looked
 use Rattle.smp.specs.Calling.{base, good, shortStorage}
 use Rattle.smp.specs.Take.{
   kindCases,
@@ -158,7 +159,7 @@ data Outcome (e : End) (bytes : List ℕ) (storage : ℕ) (h : Header) (l : Look
 
 module _ (e : End) (bytes lent : List ℕ) (long : 16 ≡ length (e .slots)) {h : Header} {l : Look} {a : Act}
     (front : h ≡ frontOf bytes) (look : l ≡ lookOf window payloadLimit e (h .sid))
-    (act : a ≡ actOf (l .ok) (e .up) (ltb (length lent) 32768) (e .role) (inUse (l .session .state)) (eqb (l .free) slotCount) (l .session) h (length bytes)) where
+    (act : a ≡ actOf (l .ok) (e .up) (ltb (length lent) (storageLength payloadLimit slotCount)) (e .role) (inUse (l .session .state)) (eqb (l .free) slotCount) (l .session) h (length bytes)) where
   abbrev gate : ℕ
   gate = first (takeCases (good base e) (e .up) (shortStorage base e (length lent)) (length bytes))
 
@@ -169,22 +170,15 @@ module _ (e : End) (bytes lent : List ℕ) (long : 16 ≡ length (e .slots)) {h 
   found v = first (packetCases base (e .role) (inUse (v .session .state)) (eqb (v .free) slotCount) (v .session) h (length bytes))
 
   sees : (b : Bool) → good base e ≡ b → l ≡ if b (seenAll e (h .sid)) seenNothing
-  unfolding lookOf
-  sees b p = look ∙ ap (λ (t : Bool). if t (seenAll e (h .sid)) seenNothing) p
+  sees true p = looked.seen e (h .sid) l look p
+  sees false p = looked.unseen e (h .sid) l look p
 
-  ok-is : l .ok ≡ good base e
-  ok-is = by (good base e) refl
-    where
-      by : (b : Bool) → good base e ≡ b → l .ok ≡ good base e
-      by true p = ap (λ (v : Look). v .ok) (sees true p) ∙ sym p
-      by false p = ap (λ (v : Look). v .ok) (sees false p) ∙ sym p
-
-  short-is : ltb (length lent) 32768 ≡ shortStorage base e (length lent)
+  short-is : ltb (length lent) (storageLength payloadLimit slotCount) ≡ shortStorage base e (length lent)
   short-is = ap (λ (k : ℕ). ltb (length lent) (storageLength payloadLimit k)) long
 
-  gate-is : first (takeCases (l .ok) (e .up) (ltb (length lent) 32768) (length bytes)) ≡ gate
+  gate-is : first (takeCases (l .ok) (e .up) (ltb (length lent) (storageLength payloadLimit slotCount)) (length bytes)) ≡ gate
   gate-is =
-      ap (λ (b : Bool). first (takeCases b (e .up) (ltb (length lent) 32768) (length bytes))) ok-is
+      ap (λ (b : Bool). first (takeCases b (e .up) (ltb (length lent) (storageLength payloadLimit slotCount)) (length bytes))) (looked.ok e (h .sid) l look)
       ∙ ap (λ (b : Bool). first (takeCases (good base e) (e .up) b (length bytes))) short-is
 
   number-is : takeNumber base e bytes (length lent) ≡ done gate (rest (readHeader bytes)) gate
@@ -199,7 +193,7 @@ module _ (e : End) (bytes lent : List ℕ) (long : 16 ≡ length (e .slots)) {h 
   act-is =
       act
       ∙ ap (λ (n : ℕ). acted n h (l .session))
-      (first-append (takeCases (l .ok) (e .up) (ltb (length lent) 32768) (length bytes))
+      (first-append (takeCases (l .ok) (e .up) (ltb (length lent) (storageLength payloadLimit slotCount)) (length bytes))
       (packetCases base (e .role) (inUse (l .session .state)) (eqb (l .free) slotCount) (l .session) h (length bytes))
       refl
       ∙ ap (λ (g : ℕ). done g (found l) g) gate-is)
@@ -240,7 +234,7 @@ module _ (e : End) (bytes lent : List ℕ) (long : 16 ≡ length (e .slots)) {h 
           let z : gate ≡ 0 = eqb-true gate 0 q in
           let c = passed (good base e) (e .up) (shortStorage base e (length lent)) (length bytes) z in
           let ph : h ≡ readHeader bytes = front ∙ rw (le-ltb (length bytes) headerLength (c .2)) in
-          by-rest z ph (sees true (c .0)) (ltb-false (length lent) 32768 (short-is ∙ c .1)) (eqb (rest h) 0) refl
+          by-rest z ph (sees true (c .0)) (ltb-false (length lent) (storageLength payloadLimit slotCount) (short-is ∙ c .1)) (eqb (rest h) 0) refl
 
   -- ---- the three arms
 
