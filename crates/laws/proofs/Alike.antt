@@ -1,5 +1,6 @@
 -- A call's answer depends on no other slot: two ends that agree on well made, up and the session with the SID answer alike, emit the same
 -- bytes, and have the same session afterwards. A read's payload and a stored payload lie where the session's slot is, so they ask the same slot too.
+-- Send, read and close are stated where the table holds the session: else they answer 4, or 12 or 1 before it, as laws/proofs/Exact.antt has it.
 -- Open and SYN depend on role, the free slots and the SIDs in use.
 use Prim.Native.Nat.{ℕ, _+_}
 use mathlib.Core.Path.{_≡_, refl, sym, ap, _∙_}
