@@ -1,0 +1,4 @@
+pub mod Wrote
+pub mod Frames
+pub mod Reports
+pub mod Worked

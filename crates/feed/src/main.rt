@@ -1,0 +1,16 @@
+// The line program: standard input's frames to a fresh server, and a report of each on standard output. The work is `capture::feed`.
+use libc::STDIN_FILENO;
+use libc::STDOUT_FILENO;
+
+// Room for the report. Its contract says nothing, so that no proof looks at so many zeros.
+fn room() -> [u8; capture::REPORT] {
+    [0; capture::REPORT]
+}
+
+fn main() {
+    let mut input = [0u8; capture::INPUT];
+    let n = io::read_full(STDIN_FILENO, &mut input);
+    let mut out = room();
+    let k = capture::feed(&input[..n], &mut out);
+    io::write_all(STDOUT_FILENO, &out[..k]);
+}

@@ -1,0 +1,22 @@
+-- Lines (document 01, "The line program"): "ended by LF; a last line without LF counts if not empty".
+use Prim.Native.Nat.{ℕ}
+use mathlib.Core.List.{List, [], _∷_}
+use lib.Dec.{eqb}
+use Rattle.first.specs.Cases.{if}
+
+abbrev pub lf : ℕ
+lf = 10
+
+-- one more character before a first line; where there is no line, it makes one
+abbrev pub grow : ℕ → List (List ℕ) → List (List ℕ)
+grow c [] = (c ∷ []) ∷ []
+grow c (l ∷ ls) = (c ∷ l) ∷ ls
+
+unfoldable pub lines : List ℕ → List (List ℕ)
+lines [] = []
+lines (c ∷ cs) = if (eqb c lf) ([] ∷ lines cs) (grow c (lines cs))
+
+-- the characters before the first LF
+unfoldable pub firstLine : List ℕ → List ℕ
+firstLine [] = []
+firstLine (c ∷ cs) = if (eqb c lf) [] (c ∷ firstLine cs)

@@ -1,0 +1,119 @@
+//! How often each answer of each call was seen, and which of document 01's answers never was.
+
+use std::collections::BTreeMap;
+
+/// Every answer that document 01 lists for a call, and those that `feed` can show: its server is
+/// fresh, has a whole storage, and its owner never reads, closes or sends.
+const LISTED: [(&str, &[&str]); 8] = [
+    ("start", &["0"]),
+    ("open", &["0", "1", "2", "3", "9", "12"]),
+    ("send", &["0", "1", "4", "5", "6", "7", "9", "12"]),
+    ("read", &["0", "1", "4", "5", "8", "9", "11", "12"]),
+    ("close", &["0", "1", "4", "5", "9", "12"]),
+    ("shutdown", &["0", "1", "12"]),
+    (
+        "take",
+        &[
+            "0", "1", "9", "10", "12", "20", "21", "22", "23", "24", "25", "26", "27", "28", "29",
+            "30",
+        ],
+    ),
+    ("feed", &["0", "1", "10", "20", "21", "22", "23", "25", "26", "27", "28", "29", "30", "bad"]),
+];
+
+/// The columns: document 01's numbers, and `bad`.
+const COLUMNS: [&str; 25] = [
+    "0", "1", "2", "3", "4", "5", "6", "7", "8", "9", "10", "11", "12", "20", "21", "22", "23",
+    "24", "25", "26", "27", "28", "29", "30", "bad",
+];
+
+const OTHER_LINES: [&str; 5] = ["lend", "record", "end", "show", "peek"];
+
+#[derive(Default)]
+pub struct Tally {
+    seen: BTreeMap<(String, String), usize>,
+    pub lines: usize,
+}
+
+impl Tally {
+    fn add(&mut self, call: &str, answer: &str) {
+        *self.seen.entry((call.to_string(), answer.to_string())).or_default() += 1;
+    }
+
+    /// Counts the answers of `calls` to an input's lines.
+    pub fn add_calls(&mut self, lines: &[Vec<u8>], answers: &[u8]) {
+        let answers = String::from_utf8_lossy(answers);
+        for (line, answer) in lines.iter().zip(answers.lines()) {
+            self.lines += 1;
+            let end = line.iter().position(|byte| b" \n".contains(byte)).unwrap_or(line.len());
+            let call = String::from_utf8_lossy(&line[..end]).to_string();
+            let is_call = LISTED.iter().any(|(listed, _)| *listed == call && call != "feed");
+            let is_other = OTHER_LINES.contains(&call.as_str());
+            let first = answer.split(' ').next().unwrap_or("");
+            match (is_call, is_other, first) {
+                (true, _, _) => self.add(&call, first),
+                (_, true, "bad") => self.add(&call, "bad"),
+                (_, true, _) => self.add(&call, "done"),
+                _ => self.add("any other line", first),
+            }
+        }
+    }
+
+    /// Counts the answers in a report of `feed`.
+    pub fn add_feed(&mut self, report: &[u8]) {
+        let report = String::from_utf8_lossy(report);
+        for line in report.lines().filter(|line| !line.starts_with("end")) {
+            self.add("feed", line.split(' ').nth(1).unwrap_or(""));
+        }
+    }
+
+    fn count(&self, call: &str, answer: &str) -> usize {
+        self.seen.get(&(call.to_string(), answer.to_string())).copied().unwrap_or(0)
+    }
+
+    /// The answers that are listed and never came.
+    pub fn never_seen(&self) -> Vec<String> {
+        let mut never = Vec::new();
+        for (call, answers) in LISTED {
+            for answer in answers.iter().filter(|answer| self.count(call, answer) == 0) {
+                never.push(format!("{call} {answer}"));
+            }
+        }
+        never
+    }
+
+    /// A Markdown table with a row for each call and for `feed`.
+    pub fn table(&self) -> String {
+        let mut rows = vec![vec!["Call".to_string()]];
+        rows[0].extend(COLUMNS.map(str::to_string));
+        let names = LISTED.iter().map(|(call, _)| *call).chain(["any other line"]);
+        for name in names {
+            let mut row = vec![name.to_string()];
+            row.extend(COLUMNS.map(|answer| match self.count(name, answer) {
+                0 => String::new(),
+                count => count.to_string(),
+            }));
+            rows.push(row);
+        }
+        let width = |column: usize| rows.iter().map(|row| row[column].len()).max().unwrap_or(0);
+        let widths: Vec<usize> = (0..rows[0].len()).map(width).collect();
+        let mut text = String::new();
+        for (i, row) in rows.iter().enumerate() {
+            for (cell, width) in row.iter().zip(&widths) {
+                text += &format!("| {cell:>width$} ");
+            }
+            text += "|\n";
+            if i == 0 {
+                let rules = widths.iter().map(|&width| format!("|{}:", "-".repeat(width + 1)));
+                text += &(rules.collect::<String>() + "|\n");
+            }
+        }
+        text += "\nLines that are no calls:";
+        for name in OTHER_LINES {
+            let (done, bad) = (self.count(name, "done"), self.count(name, "bad"));
+            text += &format!(" {name} {done} and {bad} bad;");
+        }
+        text.pop();
+        text + ".\n"
+    }
+}

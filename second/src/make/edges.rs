@@ -1,0 +1,90 @@
+//! A few fixed inputs that random ones would seldom be: empty ones, last lines without LF,
+//! lines before the first `start`.
+
+use crate::calls::LONGEST_LINE;
+use crate::feed::INPUT;
+
+/// Document 01's listing and its report.
+pub const LISTING: &str = "\
+53010500100000000000000004000000
+53080500120000000100000004000000abcd
+53020500100000000100000004000000
+53080500100000000300000004000000
+00
+";
+pub const LISTING_REPORT: &str = "\
+1 0 0005 0
+2 0 0005 1
+3 0 0005 1
+4 29 0005 0
+5 1 ---- 0
+end down 0
+";
+
+/// Lines for an end that was never started, then one that is started, each answered at once.
+pub const CONVERSATION: &str = "\
+show
+open 16
+send 0 00 17
+read 0 512 16
+close 0 16
+shutdown
+take -
+take 53010000100000000000000004000000
+peek 0 16
+start server
+take 53010000100000000000000004000000
+take 53080000140000000100000004000000616263
+take 53080000140000000100000004000000616263640a
+show
+send 0 6f6b 528
+read 0 512 16
+peek 0 8
+take 53040000100000000100000005000000
+read 0 512 16
+close 0 16
+show
+shutdown
+show
+";
+
+pub fn calls() -> Vec<Vec<u8>> {
+    let line = |size: usize| [b"take ".as_slice(), &vec![b'0'; size - 5]].concat();
+    let joined = |lines: &[&[u8]]| lines.join(&b'\n');
+    vec![
+        b"".to_vec(),
+        b"\n".to_vec(),
+        b"\n\n\n".to_vec(),
+        b"show".to_vec(),
+        b"show\n ".to_vec(),
+        b"\0".to_vec(),
+        b"show\r\nshow\r".to_vec(),
+        CONVERSATION.as_bytes().to_vec(),
+        b"end server 1\nopen 16\nopen 0\nend client 1\nopen 15\nopen 16\nshow\nlend 0\nclose 0 16"
+            .to_vec(),
+        joined(&[b"start server", &line(LONGEST_LINE - 1), b"show"]),
+        joined(&[b"start server", &line(LONGEST_LINE), b"show", &line(LONGEST_LINE + 1)]),
+        joined(&[b"start server", &line(LONGEST_LINE + 1), b"show"]),
+        joined(&[b"start server", &line(10 * LONGEST_LINE + 1), b"show", &line(5 * LONGEST_LINE)]),
+    ]
+}
+
+pub fn feed() -> Vec<Vec<u8>> {
+    let listing = LISTING.as_bytes();
+    vec![
+        b"".to_vec(),
+        b"\n".to_vec(),
+        b"\n\n".to_vec(),
+        b"0".to_vec(),
+        b"00".to_vec(),
+        b"\r".to_vec(),
+        b" ".to_vec(),
+        b"\0".to_vec(),
+        listing[..listing.len() - 1].to_vec(),
+        [listing, b"\n"].concat(),
+        vec![b'\n'; INPUT],
+        vec![b'\n'; INPUT + 1],
+        vec![b'0'; INPUT],
+        [vec![b'\n'; INPUT - 1], b"00".to_vec()].concat(),
+    ]
+}
