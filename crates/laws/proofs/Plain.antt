@@ -1,11 +1,8 @@
 -- The tests of the crates below are their plain words, both ways.
-use Prim.Native.Nat.{ℕ, zero, suc, _+_, _<_, suc-le-suc}
+use Prim.Native.Nat.{ℕ, _+_}
 use native.Mathlib.Omega.{arith}
-use native.Mathlib.Nat.{le-of-suc-le-suc, not-suc-le-zero, zero-lt-suc}
 use mathlib.Core.Path.{_≡_, refl, sym, ap, _∙_}
-use mathlib.Core.Bool.{Bool, true, false, not, _&&_, _||_}
-use mathlib.Core.List.{List, [], _∷_}
-use lib.ListN.{length, getD}
+use mathlib.Core.Bool.{Bool, true, false, not, _&&_}
 use lib.Dec.{eqb, leb}
 use borrow.Author.Tests.{eqb-true, eq-eqb, eqb-false, ne-eqb, leb-true, le-leb, not-true}
 use Rattle.first.specs.Cases.{if}
@@ -20,11 +17,13 @@ use Rattle.session.specs.declared.record.State.{State}
 use Rattle.session.specs.declared.record.State.the-variants.{Closed, Established, FinSent, FinReceived}
 use Rattle.session.specs.declared.record.Session.{Session}
 use Rattle.session.specs.Counter.{minus, plus}
-use Rattle.session.specs.Record.{window, payloadLimit, inUse, established, free}
+use Rattle.session.specs.Record.{window, payloadLimit, established}
 use Rattle.session.specs.Taken.{windowInRange, seqnumInRange}
 use Rattle.table.specs.declared.end.End.{End}
-use Rattle.table.specs.Slots.{isOf, holds, full}
-use Rattle.table.proofs.Made.{at-holds}
+use Rattle.table.specs.Slots.{holds, slotOf, lowestFree, full}
+use Rattle.table.proofs.Made.{slot-holds}
+use Rattle.table.proofs.SlotAt.{held-within, held-used, held-named}
+use Rattle.table.proofs.Lowest.{lowest-within, lowest-unused, full-used}
 use Rattle.laws.specs.Plain.{Held, Full, LengthRight, InWindow, Within, InSequence}
 
 -- a test true exactly where something holds
@@ -34,42 +33,20 @@ pub record Tells (b : Bool) (P : Type 0) : Type 0 where
 
 -- ---- a session with that SID
 
-abbrev In : ℕ → List Session → Type 0
-In sid xs = (i : ℕ) × (i < length xs) × (inUse (getD xs i free .state) ≡ true) × (getD xs i free .sid ≡ sid)
-
-found-step : (b : Bool) (sid : ℕ) (x : Session) (xs : List Session) → isOf sid x ≡ b → b || holds sid xs ≡ true → (holds sid xs ≡ true → In sid xs) → In sid (x ∷ xs)
-found-step true sid x xs p q f = let s = and-split (inUse (x .state)) (eqb (x .sid) sid) p in (zero, zero-lt-suc _, s .0, eqb-true _ _ (s .1))
-found-step false sid x xs p q f = let s = f q in (suc (s .0), suc-le-suc (s .1), s .2, s .3)
-
-found : (sid : ℕ) (xs : List Session) → holds sid xs ≡ true → In sid xs
-unfolding holds
-found sid [] p = never p
-found sid (x ∷ xs) p = found-step (isOf sid x) sid x xs refl p (found sid xs)
-
 pub held : (sid : ℕ) (e : End) → Tells (holds sid (e .slots)) (Held sid e)
 held sid e = record {
-  to = found sid (e .slots);
-  back = λ s. at-holds sid (e .slots) free (s .0) (s .1) (and-both _ _ (s .2) (eq-eqb _ _ (s .3)));
+  to = λ p. (slotOf sid (e .slots), held-within sid (e .slots) p, held-used sid (e .slots) p, held-named sid (e .slots) p);
+  back = λ s. slot-holds sid (e .slots) (s .0) (s .1) (s .2) (s .3);
 }
 
 -- ---- no free slot
 
-abbrev All : List Session → Type 0
-All xs = (i : ℕ) → i < length xs → inUse (getD xs i free .state) ≡ true
-
-all-of : (xs : List Session) → full xs ≡ true → All xs
-unfolding full
-all-of [] p i h = absurd (not-suc-le-zero h)
-all-of (x ∷ xs) p zero h = and-split (inUse (x .state)) (full xs) p .0
-all-of (x ∷ xs) p (suc i) h = all-of xs (and-split (inUse (x .state)) (full xs) p .1) i (le-of-suc-le-suc h)
-
-of-all : (xs : List Session) → All xs → full xs ≡ true
-unfolding full
-of-all [] f = refl
-of-all (x ∷ xs) f = and-both (inUse (x .state)) (full xs) (f zero (zero-lt-suc _)) (of-all xs (λ i h. f (suc i) (suc-le-suc h)))
-
 pub fully : (e : End) → Tells (full (e .slots)) (Full e)
-fully e = record { to = all-of (e .slots); back = of-all (e .slots) }
+fully e = record { to = full-used (e .slots); back = λ f. by f (full (e .slots)) refl }
+  where
+    by : Full e → (b : Bool) → full (e .slots) ≡ b → b ≡ true
+    by f true p = refl
+    by f false p = never (sym (lowest-unused (e .slots) p) ∙ f (lowestFree (e .slots)) (lowest-within (e .slots) p))
 
 -- ---- LENGTH, for the kind that FLAGS names
 

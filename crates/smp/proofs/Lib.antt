@@ -2,7 +2,9 @@ pub mod Answers
 pub mod Looked
 pub mod Opening
 pub mod Sending
+pub mod ReadZero
 pub mod Reading
 pub mod Closing
 pub mod TakeActs
+pub mod SynKeeps
 pub mod TakeAnswers

@@ -1,16 +1,12 @@
 -- Read: from what the code found to its promise.
 use Prim.Native.Nat.{ℕ, _<_, _≤_}
-use native.Mathlib.Omega.{arith}
-use native.Mathlib.Nat.{mod-lt}
-use mathlib.Core.Path.{_≡_, refl, sym, ap, _∙_, subst}
+use mathlib.Core.Path.{_≡_, sym, ap, _∙_, subst}
 use mathlib.Core.Bool.{Bool, true, false, not, _&&_}
 use mathlib.Core.List.{List, [], _++_}
 use lib.ListN.{length, take, drop}
 use lib.Dec.{ltb}
 use borrow.Author.Tests.{ltb-false, not-true, not-false}
 use Rattle.first.specs.Cases.{first, done}
-use Rattle.first.proofs.Tests.{or-split}
-use Rattle.first.proofs.First.{numbered, test, clear}
 use Rattle.wire.specs.declared.header.Header.{Header}
 use Rattle.wire.specs.Packet.{headerLength, headerBytes, onto}
 use Rattle.session.specs.declared.record.Session.{Session}
@@ -18,15 +14,15 @@ use Rattle.session.specs.Record.{window, payloadLimit, inUse, established, olde
 use Rattle.session.specs.Calls.{readOn}
 use Rattle.table.specs.declared.end.End.{End}
 use Rattle.table.specs.declared.scan.Look.{Look}
-use Rattle.table.specs.Slots.{holds, sessionOf, slotOf}
+use Rattle.table.specs.Slots.{sessionOf, slotOf}
 use Rattle.table.specs.Storage.{storageLength, placeStart}
 use Rattle.table.specs.End.{slotCount, putOf, changedOf, lookOf}
-use Rattle.table.proofs.Slots.{session-at, held, within}
-use Rattle.table.proofs.Made.{made}
+use Rattle.table.proofs.Slots.{within}
 use Rattle.smp.specs.declared.read.Got.{Got}
-use Rattle.smp.specs.Calling.{base, good, called, calling, shortStorage}
+use Rattle.smp.specs.Calling.{base, good, called, calling}
 use Rattle.smp.specs.Read.{oldestLength, readCases, readNumber, ackHeader, ackOn, oldestIn, readDone, readRefused, readOf, readPayload, readAck, ReadPromise}
 use Rattle.smp.proofs.Answers.{refused, untouched, answered, filled}
+use Rattle.smp.proofs.ReadZero.{zero-made, zero-held, zero-limit, zero-room}
 use Rattle.smp.proofs.Looked as looked
 
 -- ---- the ACK
@@ -72,41 +68,24 @@ module _ (e : End) (sid : ℕ) (st b a : List ℕ) (long : slotCount ≡ length 
   read-refused q h = record
       { answer = refused is-number h _ (λ (k : ℕ). readRefused k e) q; payload = untouched is-number h _ b; ack = untouched is-number h _ a }
 
-  -- no case applies
-  none : n ≡ 0 → (k : ℕ) → test (calling base e sid ++ readCases (sessionOf sid (e .slots)) (length b) (length a) (shortStorage base e (length st))) k ≡ false
-  unfolding readNumber numbered
-  none z k = clear _ k refl (sym is-number ∙ z)
+  zero : n ≡ 0 → readNumber base e sid (length b) (length a) (length st) ≡ 0
+  zero z = sym is-number ∙ z
 
   well : n ≡ 0 → good base e ≡ true
-  unfolding test
-  well z = not-false _ (none z 12)
-
-  there : n ≡ 0 → holds sid (e .slots) ≡ true
-  unfolding test
-  there z = not-false _ (none z 4)
-
-  -- a session in use at a well-made end stores no length over the limit
-  limit : n ≡ 0 → oldestLength (sessionOf sid (e .slots)) ≤ payloadLimit
-  limit z =
-      let x : sessionOf sid (e .slots) ≡ _ = session-at sid (e .slots) in
-      let order = made window payloadLimit e (well z) .each (slotOf sid (e .slots)) (within sid (e .slots) (there z)) in
-      let in-use = ap (λ (y : Session). inUse (y .state)) (sym x) ∙ held sid (e .slots) ∙ there z in
-      subst (λ (y : Session). oldestLength y ≤ payloadLimit) (sym x) (order .used in-use .lengths _ (mod-lt _ (omega arith)))
+  well z = zero-made base e sid (length b) (length a) (length st) (zero z)
 
   pub read-fits : n ≡ 0 → Fits (l .slot) (l .session) st b a
-  unfolding test
   read-fits z =
       let x : sessionOf sid (e .slots) ≡ l .session = sym (looked.this e sid l look (well z)) in
-      let nine = or-split _ _ (none z 9) in
-      let more = or-split (established (sessionOf sid (e .slots) .state) && ltb (length a) headerLength) (shortStorage base e (length st)) (nine .1) in
-      let i : slotOf sid (e .slots) < slotCount = subst (λ (k : ℕ). slotOf sid (e .slots) < k) (sym long) (within sid (e .slots) (there z)) in
-      let enough : storageLength payloadLimit (length (e .slots)) ≤ length st = ltb-false _ _ (more .1) in
+      let nine = zero-room base e sid (length b) (length a) (length st) (zero z) in
+      let there = within sid (e .slots) (zero-held base e sid (length b) (length a) (length st) (zero z)) in
+      let i : slotOf sid (e .slots) < slotCount = subst (λ (k : ℕ). slotOf sid (e .slots) < k) (sym long) there in
       record {
         within = subst (λ (k : ℕ). k < slotCount) (sym (looked.slot e sid l look (well z))) i;
-        short = subst (λ (y : Session). oldestLength y ≤ payloadLimit) x (limit z);
-        room = subst (λ (y : Session). oldestLength y ≤ length b) x (ltb-false _ _ (nine .0));
-        ack = subst (λ (y : Session). established (y .state) && ltb (length a) headerLength ≡ false) x (more .0);
-        storage = subst (λ (k : ℕ). storageLength payloadLimit k ≤ length st) (sym long) enough;
+        short = subst (λ (y : Session). oldestLength y ≤ payloadLimit) x (zero-limit base e sid (length b) (length a) (length st) (zero z));
+        room = subst (λ (y : Session). oldestLength y ≤ length b) x (nine .0);
+        ack = subst (λ (y : Session). established (y .state) && ltb (length a) headerLength ≡ false) x (nine .1);
+        storage = subst (λ (k : ℕ). storageLength payloadLimit k ≤ length st) (sym long) (nine .2);
       }
 
   pub read-done : n ≡ 0 → {len q k : ℕ} {y : Session} {d : End} {r : Got} {b' a' : List ℕ} → len ≡ oldestLength (l .session) → q ≡ oldest (l .session)

@@ -18,8 +18,6 @@ use Rattle.wire.specs.declared.kind.Flags.the-variants.{One}
 use Rattle.wire.specs.Packet.{headerLength, readHeader, flagsOf, headerNumber}
 use Rattle.wire.proofs.Flags.{flags-named}
 use Rattle.wire.proofs.Shapes.{SoundHeader, exactly-0}
-use Rattle.session.specs.declared.record.State.{State}
-use Rattle.session.specs.declared.record.State.the-variants.{Closed, Established, FinSent, FinReceived}
 use Rattle.session.specs.declared.record.Session.{Session}
 use Rattle.session.specs.declared.taken.Cell.{Cell}
 use Rattle.session.specs.Record.{window, payloadLimit, inUse, freshOf}
@@ -52,6 +50,7 @@ use Rattle.smp.specs.Take.{
   takeStorage,
   TakePromise,
 }
+use Rattle.smp.proofs.SynKeeps.{syn-keeps}
 use Rattle.smp.proofs.TakeActs.{after, joined}
 use Rattle.smp.specs.TakeParts.{noHeader, frontOf, missingOf, stopOf, kindAct, acted, actOf}
 
@@ -129,13 +128,6 @@ is-cell Syn x c p = let z : _≡_ {A = ℕ} 0 1 = cc in absurd (omega arith)
 is-cell Ack x c p = (λ q. let z : _≡_ {A = ℕ} 0 1 = cc in omega arith, cc)
 is-cell Fin x c p = (λ q. let z : _≡_ {A = ℕ} 0 1 = cc in omega arith, cc)
 is-cell Data x c p = (λ q. let z : _≡_ {A = ℕ} 0 1 = cc in omega arith, cc)
-
--- a SYN changes no stored byte
-syn-keeps : (st : State) (i : ℕ) (h : Header) (bytes lent : List ℕ) → lent ≡ kept base (cellOf st Syn) i h bytes lent
-syn-keeps Closed i h bytes lent = refl
-syn-keeps Established i h bytes lent = refl
-syn-keeps FinSent i h bytes lent = refl
-syn-keeps FinReceived i h bytes lent = refl
 
 -- for all other kinds the slot found is replaced
 other-end : (k : Kind) (h : Header) (e : End) → (k ≡ Syn → ⊥)
@@ -280,7 +272,8 @@ module _ (e : End) (bytes lent : List ℕ) (long : 16 ≡ length (e .slots)) {h 
           let syn : k ≡ Syn = is-syn k (sessionOf (h .sid) (e .slots)) (sym b ∙ pa) in
           let en : d ≡ putOf (lowestFree (e .slots)) (freshOf (h .sid)) e =
           pd ∙ ap (λ (y : Session). putOf (l .free) y e) px ∙ ap (λ (v : Look). putOf (v .free) (freshOf (h .sid)) e) pl in
-          goes Syn z ph (f .flags ∙ ap One syn) (pr ∙ ap (takeDone h) en) (syn-keeps (sessionOf (h .sid) (e .slots) .state) (slotOf (h .sid) (e .slots)) h bytes lent)
+          goes Syn z ph (f .flags ∙ ap One syn) (pr ∙ ap (takeDone h) en)
+          (sym (syn-keeps base (sessionOf (h .sid) (e .slots) .state) (slotOf (h .sid) (e .slots)) h bytes lent))
 
   module _ (c : Cell) (pa : a ≡ Do c) where
     pub take-fits : (l .slot < slotCount) × (headerLength ≤ h .length) × (h .length ≤ headerLength + payloadLimit) × (h .length ≤ length bytes) × (storageLength payloadLimit slotCount ≤ length lent)

@@ -1,7 +1,9 @@
 pub mod Slots
 pub mod Made
+pub mod SlotAt
 pub mod Seen
 pub mod Lowest
 pub mod Smallest
+pub mod Parts
 pub mod Places
 pub mod Kept

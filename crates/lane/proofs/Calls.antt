@@ -1,0 +1,146 @@
+-- Means of proof. What every move of a half keeps and shows (Fine), and that the three calls are such moves.
+use Prim.Native.Nat.{ℕ, _+_, _≤_, _<_, zero, suc}
+use native.Mathlib.Omega.{arith}
+use mathlib.Core.Path.{_≡_, refl, sym, _∙_, subst}
+use mathlib.Core.Bool.{Bool, true, false}
+use mathlib.Core.List.{List, [], _∷_, _++_, append-assoc, append-nil}
+use lib.ListN.{length, length-append}
+use lib.Dec.{T, nleb→lt, leb}
+use Rattle.lane.proofs.Half.{Bytes, Packet, St, est, fs, fr, gone, Body, sOf, gOf, Out, Room, refuse, send, sent, read, readOne, readLast, later, close, ending}
+use Rattle.lane.proofs.Outcomes.{send-all, read-all, close-all}
+use Rattle.lane.proofs.Lane.{Call, put, get, shut, push, took, gave, deliver}
+use Rattle.lane.proofs.Inv.{pays, pays-append, Flow, flow-push, closes, ended, keeps, Gate, News, Dir, Inv, arrived, silent, count}
+
+-- one more packet at the tail of a direction whose writer has not closed; its WNDW is the writer's G, which may have grown
+gate-push : (b e : Bool) (n w : ℕ) (l : List Packet) (t m g : ℕ) (x : Packet) → m ≡ n + length (pays l) → t ≤ g
+    → ((w : ℕ) → w ≤ g → Flow e m w (x ∷ []) g) → Gate b false n w l t → Gate b e n w (l ++ (x ∷ [])) g
+gate-push true e n w l t m g x h k z f = absurd (f .0)
+gate-push false e n w l t m g x h k z f = flow-push e n w l t m g x h k z f
+
+news-now : (s : St) (g : ℕ) → News s g g
+news-now est g = refl
+news-now fs g = tt
+news-now fr g = tt
+news-now gone g = tt
+
+module _ {sx : St} {sent : List Bytes} {g : ℕ} {l : List Packet} {s : St} {got unread : List Bytes} {h : ℕ} where
+  dir-push : (sx′ : St) (sent′ : List Bytes) (k : ℕ) (x : Packet) → closes sx ≡ false → sent′ ≡ sent ++ pays (x ∷ []) → g ≤ k
+      → ((w : ℕ) → w ≤ k → Flow (closes sx′) (length sent) w (x ∷ []) k) → Dir sx sent g l s got unread h → Dir sx′ sent′ k (l ++ (x ∷ [])) s got unread h
+  dir-push sx′ sent′ k x c e m z d = record {
+    lost = d .lost;
+    w = d .w;
+    t = k;
+    low = d .low;
+    mid = omega (arith, d .mid, d .top);
+    top = omega arith;
+    news = news-now sx′ k;
+    kept = d .kept;
+    whole = e ∙ simp (pays-append, d .whole, append-assoc);
+    flow = gate-push (ended s) (closes sx′) _ _ l (d .t) (length sent) k x (count d) (omega (arith, d .top)) z (rw c at (d .flow));
+  }
+
+  -- the reader has read one
+  dir-read : {p : Bytes} → Dir sx sent g l s got (p ∷ unread) h → Dir sx sent g l s (got ++ (p ∷ [])) unread h
+  dir-read {p} d = arrived d (d .lost) (d .w) (d .whole ∙ simp append-assoc) (d .low) (d .mid) (d .kept)
+      (subst (λ (n : ℕ). Gate (ended s) (closes sx) n (d .w) l (d .t)) (omega (arith, length-append got (p ∷ []))) (d .flow))
+
+-- ---- of one move c of a half (s, X), with the other half (sy, Y) and the packets between: the invariant, what was accepted and handed
+-- over, and that a half that has closed stays so and accepts nothing
+
+pub record Fine (c : Call) (s : St) (X : Body) (sy : St) (Y : Body) (xy yx : List Packet) (o : Out) : Type 0 where
+  pub inv : Inv (o .st) (o .body) sy Y (push xy (o .emit)) yx
+  pub acc : o .body .acc ≡ X .acc ++ took c (o .ans)
+  pub got : o .body .got ≡ X .got ++ gave (o .pay)
+  pub shut : T (closes s) → T (closes (o .st)) × (o .body .acc ≡ X .acc)
+
+-- a refusal accepts nothing
+took-none : (c : Call) (n : ℕ) → T (leb 4 n) → took c n ≡ []
+took-none (put p R) zero t = absurd t
+took-none (put p R) (suc n) t = refl
+took-none (get R) n t = refl
+took-none (shut R) n t = refl
+took-none deliver n t = refl
+
+module _ {sy : St} {Y : Body} {xy yx : List Packet} where
+  pub refused : (c : Call) (n : ℕ) (s : St) (X : Body) → T (leb 4 n) → Inv s X sy Y xy yx → Fine c s X sy Y xy yx (refuse n s X)
+  refused c n s X h i = record {
+    inv = i;
+    acc = rw (took-none c n h) (sym (append-nil (X .acc)));
+    got = sym (append-nil (X .got));
+    shut = λ (t : T (closes s)). (t, refl);
+  }
+
+  -- ---- send
+
+  sent-fine : (p : Bytes) (R : Room) (X : Body) → sOf X < X .high → Inv est X sy Y xy yx → Fine (put p R) est X sy Y xy yx (sent X p)
+  sent-fine p R X h i = record {
+    inv = record {
+      fitX = rw length-append (omega arith);
+      fitY = i .fitY;
+      bwd = i .bwd;
+      fwd = dir-push est _ (gOf X) _ refl refl (omega arith) (λ w le. (refl, le, (tt, refl))) (i .fwd);
+    };
+    acc = refl;
+    got = sym (append-nil (X .got));
+    shut = λ t. absurd t;
+  }
+
+  pub send-fine : (p : Bytes) (R : Room) (s : St) (X : Body) → Inv s X sy Y xy yx → Fine (put p R) s X sy Y xy yx (send p R s X)
+  send-fine p R s X i =
+      send-all (Fine (put p R) s X sy Y xy yx) X p R s (λ n t _. refused (put p R) n s X t i)
+      (λ e _ h. rw e (sent-fine p R X (nleb→lt (X .high) (sOf X) h) (rw e at i)))
+
+  -- ---- close
+
+  ending-fine : (R : Room) (s s′ : St) (X : Body) → closes s ≡ false → closes s′ ≡ true → ended s′ ≡ ended s → keeps s′ ≡ false → Inv s X sy Y xy yx
+      → Fine (shut R) s X sy Y xy yx (ending s′ X)
+  ending-fine R s s′ X c c′ e k i = let d = i .bwd in record {
+    inv = record {
+      fitX = i .fitX;
+      fitY = i .fitY;
+      fwd = dir-push s′ (X .acc) (gOf X) _ c (sym (append-nil (X .acc))) (omega arith) (λ (w : ℕ) (le : w ≤ gOf X). rw c′ (tt, refl, le, refl, refl)) (i .fwd);
+      bwd = arrived d (d .lost) (d .w) (d .whole) (d .low) (d .mid) (rw k tt) (rw e (d .flow));
+    };
+    acc = sym (append-nil (X .acc));
+    got = sym (append-nil (X .got));
+    shut = λ (t : T (closes s)). absurd (rw c at t);
+  }
+
+  pub close-fine : (R : Room) (s : St) (X : Body) → Inv s X sy Y xy yx → Fine (shut R) s X sy Y xy yx (close R s X)
+  close-fine R s X i =
+      close-all (Fine (shut R) s X sy Y xy yx) X R s (λ n t _. refused (shut R) n s X t i)
+      (λ e. rw e (ending-fine R est fs X refl refl refl refl (rw e at i))) (λ e. rw e (ending-fine R fr gone X refl refl refl refl (rw e at i)))
+
+  -- ---- read
+
+  one-fine : (p : Bytes) (u : List Bytes) (R : Room) (X : Body) → X .unread ≡ p ∷ u → Inv est X sy Y xy yx → Fine (get R) est X sy Y xy yx (readOne X p u)
+  one-fine p u R X h i = record {
+    inv = record {
+      fitX = i .fitX;
+      fitY = i .fitY;
+      fwd = dir-push est (X .acc) (gOf (later X p u)) _ refl (sym (append-nil (X .acc))) (rw length-append (omega arith)) (λ w le. (refl, le, (tt, refl))) (i .fwd);
+      bwd = dir-read (rw h at (i .bwd));
+    };
+    acc = sym (append-nil (X .acc));
+    got = refl;
+    shut = λ t. absurd t;
+  }
+
+  -- the last ones are read in silence: G grows and nothing says so
+  last-fine : (p : Bytes) (u : List Bytes) (R : Room) (X : Body) → X .unread ≡ p ∷ u → Inv fr X sy Y xy yx → Fine (get R) fr X sy Y xy yx (readLast X p u)
+  last-fine p u R X h i = record {
+    inv = record {
+      fitX = i .fitX;
+      fitY = i .fitY;
+      fwd = silent (i .fwd) refl (rw length-append (omega arith)) tt;
+      bwd = dir-read (rw h at (i .bwd));
+    };
+    acc = sym (append-nil (X .acc));
+    got = refl;
+    shut = λ t. absurd t;
+  }
+
+  pub read-fine : (R : Room) (s : St) (X : Body) → Inv s X sy Y xy yx → Fine (get R) s X sy Y xy yx (read R s X)
+  read-fine R s X i =
+      read-all (Fine (get R) s X sy Y xy yx) X R s (λ n t _. refused (get R) n s X t i)
+      (λ e p u q. rw e (one-fine p u R X q (rw e at i))) (λ e p u q. rw e (last-fine p u R X q (rw e at i)))

@@ -1,0 +1,44 @@
+-- Means of proof. What a call of a half comes to: a refusal whose number is from 4 to 11, in the state that it was in, or what the call gives
+-- when it is done. The cases of each call are gone through here once: what holds of each outcome holds of the call.
+use Prim.Native.Nat.{ℕ}
+use mathlib.Core.Path.{_≡_, refl}
+use mathlib.Core.Bool.{not, _||_}
+use mathlib.Core.List.{List, [], _∷_}
+use lib.Dec.{T, leb, ltb}
+use Rattle.lane.proofs.Half.{Bytes, St, est, fs, fr, gone, Body, Out, Room, refuse, unless-all, shut, tight, sent, send, cramped, readOne, readLast, readE}
+use Rattle.lane.proofs.Half.{readR, read, ending, close}
+
+module _ (P : Out → Type 0) (B : Body) where
+  -- it holds of every refusal in state s
+  abbrev pub Refusals : St → Type 0
+  Refusals s = (n : ℕ) → T (leb 4 n) → T (ltb n 12) → P (refuse n s B)
+
+  pub send-all : (p : Bytes) (R : Room) (s : St) → Refusals s → (s ≡ est → T (not (R .big)) → T (not (shut B)) → P (sent B p)) → P (send p R s B)
+  send-all p R est ref y =
+      unless-all P (R .big) 6 est B _ (ref 6 tt tt) λ (b : T (not (R .big))).
+      unless-all P (shut B) 7 est B _ (ref 7 tt tt) λ (h : T (not (shut B))).
+      unless-all P (tight R p) 9 est B _ (ref 9 tt tt) λ (_ : T (not (tight R p))). y refl b h
+  send-all p R fs ref y = ref 5 tt tt
+  send-all p R fr ref y = ref 5 tt tt
+  send-all p R gone ref y = ref 4 tt tt
+
+  pub read-all : (R : Room) (s : St) → Refusals s → (s ≡ est → (p : Bytes) (u : List Bytes) → B .unread ≡ p ∷ u → P (readOne B p u))
+      → (s ≡ fr → (p : Bytes) (u : List Bytes) → B .unread ≡ p ∷ u → P (readLast B p u)) → P (read R s B)
+  read-all R est ref y z = by (B .unread) refl
+    where
+      by : (u : List Bytes) → B .unread ≡ u → P (readE u R B)
+      by [] e = ref 8 tt tt
+      by (p ∷ u) e = unless-all P (cramped R p || ltb (R .buf) 16) 9 est B _ (ref 9 tt tt) (λ _. y refl p u e)
+  read-all R fs ref y z = ref 5 tt tt
+  read-all R fr ref y z = by (B .unread) refl
+    where
+      by : (u : List Bytes) → B .unread ≡ u → P (readR u R B)
+      by [] e = ref 11 tt tt
+      by (p ∷ u) e = unless-all P (cramped R p) 9 fr B _ (ref 9 tt tt) (λ _. z refl p u e)
+  read-all R gone ref y z = ref 4 tt tt
+
+  pub close-all : (R : Room) (s : St) → Refusals s → (s ≡ est → P (ending fs B)) → (s ≡ fr → P (ending gone B)) → P (close R s B)
+  close-all R est ref y z = unless-all P (ltb (R .buf) 16) 9 est B _ (ref 9 tt tt) (λ _. y refl)
+  close-all R fs ref y z = ref 5 tt tt
+  close-all R fr ref y z = unless-all P (ltb (R .buf) 16) 9 fr B _ (ref 9 tt tt) (λ _. z refl)
+  close-all R gone ref y z = ref 4 tt tt

@@ -1,0 +1,154 @@
+-- Demand 3: any steps of one client and one server, in any order, from a fresh pair. The number of steps isn't bounded, so more than 2^32
+-- packets of one session are among them. All that the statements speak of stands in specs/; lanes and mirrors are means of proof.
+use Prim.Native.Nat.{ℕ, _+_, _≤_}
+use native.Mathlib.Omega.{arith}
+use mathlib.Core.Path.{_≡_, refl, sym, ap₂, _∙_, subst}
+use mathlib.Core.Bool.{true}
+use mathlib.Core.List.{List, [], map, flatMap}
+use lib.ListN.{length, take}
+use Rattle.wire.specs.Packet.{headerLength}
+use Rattle.session.specs.declared.record.State.the-variants.{Established, FinReceived}
+use Rattle.session.specs.Counter.{minus}
+use Rattle.session.specs.Record.{unread}
+use Rattle.smp.specs.declared.open.Opened.{Opened}
+use Rattle.smp.specs.declared.send.Sent.{Sent}
+use Rattle.smp.specs.declared.read.Got.{Got}
+use Rattle.smp.specs.declared.close.Closed.{Closed}
+use Rattle.smp.specs.declared.take.Taken.{Taken}
+use Rattle.smp.specs.Calling.{base, good}
+use Rattle.smp.specs.Open.{OpenPromise}
+use Rattle.smp.specs.Send.{SendPromise}
+use Rattle.smp.specs.Read.{ReadPromise}
+use Rattle.smp.specs.Close.{ClosePromise}
+use Rattle.smp.specs.Take.{TakePromise}
+use Rattle.lane.specs.Side.{Side, other}
+use Rattle.lane.proofs.Half.{fr}
+use Rattle.lane.proofs.Told.{all-read}
+use Rattle.lane.proofs.World as lanes
+use Rattle.lane.proofs.Acts.{ends}
+use Rattle.lane.proofs.Alone.{dawn-sim}
+use Rattle.pair.specs.World.{Party, Sizes, sized}
+use Rattle.pair.specs.Step.{Open, Send, Read, Close, Take, Step, did, replyTo}
+use Rattle.pair.specs.Seen.{openSeen, sendSeen, readSeen, closeSeen, takeSeen}
+use Rattle.pair.specs.Whose.{Marked}
+use Rattle.pair.specs.History.{Scene, dawn, Entry, history, final}
+use Rattle.pair.specs.Claims.{Every, Some, own, accepted, received, FirstPart, IsTake, Told, FinTaken, OpenedAs, slotAt, Holds, Fine, OwnSlot, aloneStep}
+use Rattle.pair.specs.Claims.{plainReply}
+use Rattle.pair.proofs.Bytes.InBuffer.{open-front, send-front, read-front, ack-front, close-front}
+use Rattle.pair.proofs.Mirror.Scene.{Mirror}
+use Rattle.pair.proofs.Mirror.Facts.{good-at}
+use Rattle.pair.proofs.History.Along.{dawn-mirror, Run, run, at-end, run-lengths}
+use Rattle.pair.proofs.History.NeverFaults.{run-fine}
+use Rattle.pair.proofs.History.Events.{run-first-part, run-told-whole, half-received, half-accepted}
+use Rattle.pair.proofs.History.AsAlone.{run-alone}
+use Rattle.pair.proofs.History.OwnSlot.{run-filed}
+use Rattle.pair.proofs.History.SameNumber.{run-opened, held-opened}
+use Rattle.pair.proofs.History.Holding.{held-state, held-read, read-told, window-open, send-accepted}
+use Rattle.pair.proofs.History.FinTaken.{run-ended, fin-held}
+
+-- ---- a run: its history h, and the scene x where it ends; each scene before is where the run that stops there ends
+
+module _ (slots place : ℕ) (storage : Side → List ℕ) (steps : List Step) where
+  abbrev pub h : List Entry
+  h = history (sized place) (dawn slots storage) steps
+
+  abbrev pub x : Scene
+  x = final (sized place) (dawn slots storage) steps
+
+  module _ (z : Sizes slots place) where
+    lanes-run : Run slots place (dawn slots storage) lanes.dawn steps
+    lanes-run = run z (dawn-mirror slots place storage) steps
+
+    mirror : Mirror slots place x (ends lanes.dawn (lanes-run .acts))
+    mirror = at-end (lanes-run .along)
+
+    -- 1. No step is answered by a fault, by 1 or by 12: both ends stay up and well made.
+    pub never-faults : Every Fine h
+    never-faults = run-fine (lanes-run .along)
+
+    pub stays-sound : (k : Side) → (x .world k .end .up ≡ true) × (good (sized place) (x .world k .end) ≡ true)
+    stays-sound k = (mirror .at k .up, good-at mirror k)
+
+    -- 2. What a session's reads handed over at one side is a first part of what its sends were accepted with at the other, payload by payload.
+    pub first-part : (n : ℕ) (k : Side) → FirstPart (received k (own n h)) (accepted (other k) (own n h))
+    first-part = run-first-part (lanes-run .along)
+
+    -- 3. If one of those reads answered 11, it is all of it.
+    pub whole-when-told : (n : ℕ) (k : Side) → Some (Told k) (own n h) → received k (own n h) ≡ accepted (other k) (own n h)
+    whole-when-told = run-told-whole (lanes-run .along)
+
+    -- 4. Alone on a fresh pair, a session's own steps get the same replies, packets included, but for the SID. The storages there have the same
+    -- lengths, and any content.
+    pub as-alone : (n : ℕ) (again : Side → List ℕ) → ((k : Side) → length (again k) ≡ length (storage k))
+        → map plainReply (own n h) ≡ map (λ (e : Entry). e .reply) (history (sized place) (dawn slots again) (map aloneStep (own n h)))
+    as-alone n again long =
+        run-alone z n (lanes-run .along) (dawn slots again) lanes.dawn (record { mirror = dawn-mirror slots place again; sim = dawn-sim n; long = long })
+
+    -- 5. A packet taken with 0 changes the slot of the session that sent it, and no other slot, and no byte outside that slot's four places;
+    -- and a storage keeps its length.
+    pub own-slot : Every (λ (e : Entry). IsTake (e .step .call) → e .reply .number ≡ 0 → OwnSlot place e) h
+    own-slot = run-filed z (lanes-run .along)
+
+    pub same-lengths : (k : Side) → length (x .world k .storage) ≡ length (storage k)
+    same-lengths = run-lengths (lanes-run .along)
+
+    -- 6. While a table holds a session, it holds it under the SID that the session's open answered.
+    pub same-number : (k : Side) (i n : ℕ) → Holds x k i n → Some (OpenedAs n (slotAt x k i .sid)) h
+    same-number k i n s =
+        let o = held-opened mirror k i n s in
+        subst (λ (y : ℕ). Some (OpenedAs n y) h) (sym (o .1)) (run-opened n (lanes-run .along) (omega arith) (o .0))
+
+    -- 7. Once a side has taken a session's FIN, each slot that holds the session there is in FIN RECEIVED. In FIN RECEIVED every read answers 11
+    -- where nothing is unread, and where all that the writer's sends were accepted with was received.
+    pub fin-received : (k : Side) (i n : ℕ) → Some (FinTaken k n) h → Holds x k i n → slotAt x k i .state ≡ FinReceived
+    fin-received k i n f = fin-held mirror k i n (run-ended k n (lanes-run .along) f)
+
+    module _ (k : Side) (i n : ℕ) (s : Holds x k i n) (e : slotAt x k i .state ≡ FinReceived) where
+      pub told-unread : unread (slotAt x k i) ≡ 0 → (room ack lent : ℕ)
+          → replyTo (sized place) (record { side = k; call = Read (slotAt x k i .sid) room ack lent }) (x .world) .number ≡ 11
+      told-unread u = let f = held-state mirror k i n s fr e in read-told mirror k i n s f (held-read mirror k i n s fr f refl refl u)
+
+      pub told : received k (own n h) ≡ accepted (other k) (own n h) → (room ack lent : ℕ)
+          → replyTo (sized place) (record { side = k; call = Read (slotAt x k i .sid) room ack lent }) (x .world) .number ≡ 11
+      told u =
+          let all = half-received (lanes-run .along) n k ∙ u ∙ sym (half-accepted (lanes-run .along) n (other k)) in
+          read-told mirror k i n s (held-state mirror k i n s fr e) (all-read _ (mirror .inv .good n) k all)
+
+    -- 8. Where both sides have a session in ESTABLISHED, nothing is on its way and all is read, H - S = 4 at both, whatever the counters are;
+    -- so a send of a payload within the limit, with room for it, is accepted.
+    module _ (n : ℕ) (i : Side → ℕ) (s : (k : Side) → Holds x k (i k) n) (e : (k : Side) → slotAt x k (i k) .state ≡ Established)
+        (c : (k : Side) → x .world k .coming ≡ []) (u : (k : Side) → unread (slotAt x k (i k)) ≡ 0) (k : Side) where
+      pub window-opens : minus (slotAt x k (i k) .h) (slotAt x k (i k) .s) ≡ 4
+      window-opens = window-open mirror n i s e c u k
+
+      pub window-sends : (payload : List ℕ) (room : ℕ) → length payload ≤ place → headerLength + length payload ≤ room
+          → replyTo (sized place) (record { side = k; call = Send (slotAt x k (i k) .sid) payload room }) (x .world) .number ≡ 0
+      window-sends = send-accepted mirror n i s e c u k
+
+    -- 9. The book doesn't make packets up: the bytes on their way to a side are those of its marked packets, one after the other.
+    pub marks : (k : Side) → x .world k .coming ≡ flatMap (λ (m : Marked). m .bytes) (x .book .notes k .coming)
+    marks k = mirror .at k .bytes
+
+-- ---- in the buffer: what a step makes of a call is what its caller has in hand, by the call's own promise, whatever the buffers held before
+
+module _ (p : Party) where
+  pub open-seen : {lent exit : List ℕ} {r : Opened} → OpenPromise (p .end) lent r exit → did base (Open (length lent)) p ≡ openSeen p r exit
+  open-seen q = let packet = open-front q in cc
+
+  pub send-seen : {sid : ℕ} {payload lent exit : List ℕ} {r : Sent} → SendPromise (p .end) sid payload lent r exit
+      → did base (Send sid payload (length lent)) p ≡ sendSeen p r exit
+  send-seen q = let packet = send-front q in cc
+
+  pub read-seen : {sid : ℕ} (n : ℕ) {lent lentAck exit exitAck : List ℕ} {r : Got} → ReadPromise (p .end) sid (take n (p .storage)) lent lentAck r exit exitAck
+      → did base (Read sid (length lent) (length lentAck) n) p ≡ readSeen p r exit exitAck
+  read-seen n q =
+      let payload = read-front q in
+      let packet = ack-front q in
+      cc
+
+  pub close-seen : {sid : ℕ} {lent exit : List ℕ} {r : Closed} → ClosePromise (p .end) sid lent r exit → did base (Close sid (length lent)) p ≡ closeSeen p r exit
+  close-seen q = let packet = close-front q in cc
+
+  pub take-seen : (given n : ℕ) {exit : List ℕ} {r : Taken} → TakePromise (p .end) (take given (p .coming)) (take n (p .storage)) r exit
+      → did base (Take given n) p ≡ takeSeen p n r exit
+  take-seen given n q = ap₂ (takeSeen p n) (sym (q .answer)) (sym (q .storage))

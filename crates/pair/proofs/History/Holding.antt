@@ -1,0 +1,79 @@
+-- What a slot that holds a session says of its lane, at a mirrored scene: a read in FIN RECEIVED with nothing unread is told 11; and where
+-- both halves are ESTABLISHED, nothing is on its way and all is read, the window is open at both, and a send is accepted.
+use Prim.Native.Nat.{ℕ, _+_, _≤_}
+use native.Mathlib.Omega.{arith}
+use mathlib.Core.Path.{_≡_, refl, sym, ap, _∙_, subst}
+use mathlib.Core.Bool.{true, false}
+use mathlib.Core.List.{List, [], _∷_}
+use lib.ListN.{length}
+use borrow.Author.Tests.{le-ltb, lt-leb}
+use Rattle.wire.specs.Packet.{headerLength}
+use Rattle.session.specs.declared.record.State.the-variants.{Established}
+use Rattle.session.specs.Counter.{minus}
+use Rattle.session.specs.Record.{finSent, inUse, unread}
+use Rattle.lane.specs.Side.{Side}
+use Rattle.lane.proofs.Half.{St, est, fr, sOf, send}
+use Rattle.lane.proofs.Lane.{stOf, half}
+use Rattle.lane.proofs.Story.{window-opens}
+use Rattle.lane.proofs.Told.{told-eleven}
+use Rattle.lane.proofs.World.{pick, World}
+use Rattle.pair.specs.World.{sized}
+use Rattle.pair.specs.Step.{Send, Read, Reply, replyTo}
+use Rattle.pair.specs.History.{Scene}
+use Rattle.pair.specs.Claims.{slotAt, Holds}
+use Rattle.pair.proofs.Record.Stands.{stateOf, whole-window, unread-counts, state-one}
+use Rattle.pair.proofs.Mirror.Scene.{Filled, Mirror}
+use Rattle.pair.proofs.Mirror.Facts.{ranges-of}
+use Rattle.pair.proofs.Mirror.Channels.{no-items}
+use Rattle.pair.proofs.Steps.Performs.{sendRoom, readRoom}
+use Rattle.pair.proofs.Steps.Sending.{acted-sending}
+use Rattle.pair.proofs.Steps.Reading.{acted-reading}
+
+none-left : {A : Type 0} (l : List A) → length l ≡ 0 → l ≡ []
+none-left [] e = refl
+none-left (a ∷ l) e = absurd (omega arith)
+
+module _ {slots place : ℕ} {x : Scene} {W : World} (m : Mirror slots place x W) where
+  module _ (k : Side) (i n : ℕ) (h : Holds x k i n) where
+    -- the slot stands for its lane
+    pub held : Filled place W k (x .world k) i n
+    held = subst (Filled place W k (x .world k) i) (h .owner) (m .at k .filled i (omega (arith, h .slot, m .at k .many)) (h .used))
+
+    pub held-state : (s : St) → slotAt x k i .state ≡ stateOf s → stOf k (W .lanes n) ≡ s
+    held-state s e = state-one (stOf k (W .lanes n)) s (sym (held .stands .state) ∙ e)
+
+    -- nothing is unread
+    pub held-read : (s : St) → stOf k (W .lanes n) ≡ s → finSent (stateOf s) ≡ false → inUse (stateOf s) ≡ true → unread (slotAt x k i) ≡ 0
+        → half k (W .lanes n) .unread ≡ []
+    held-read s e f u z =
+        none-left (half k (W .lanes n) .unread)
+        (sym (unread-counts (held .stands) (ranges-of m k n) (ap (λ (t : St). finSent (stateOf t)) e ∙ f) (ap (λ (t : St). inUse (stateOf t)) e ∙ u)) ∙ z)
+
+    pub read-told : stOf k (W .lanes n) ≡ fr → half k (W .lanes n) .unread ≡ [] → (room ack lent : ℕ)
+        → replyTo (sized place) (record { side = k; call = Read (slotAt x k i .sid) room ack lent }) (x .world) .number ≡ 11
+    read-told e u room ack lent =
+        ap (λ (r : Reply). r .number) (acted-reading m (record { listed = held .listed; name = sym (held .stands .sid) }) room ack lent .reply)
+        ∙ told-eleven (W .lanes n) k (readRoom slots place room ack lent (length (x .world k .storage))) e u
+
+  -- both halves ESTABLISHED, nothing on its way, all read
+  module _ (n : ℕ) (i : Side → ℕ) (h : (k : Side) → Holds x k (i k) n) (e : (k : Side) → slotAt x k (i k) .state ≡ Established)
+      (c : (k : Side) → x .world k .coming ≡ []) (z : (k : Side) → unread (slotAt x k (i k)) ≡ 0) (k : Side) where
+    both : (k : Side) → stOf k (W .lanes n) ≡ est
+    both k = held-state k (i k) n (h k) est (e k)
+
+    opens : half k (W .lanes n) .high ≡ sOf (half k (W .lanes n)) + 4
+    opens =
+        window-opens (W .lanes n) (m .inv .good n) both (λ k. sym (m .inv .queue k n) ∙ ap (pick n) (no-items m k (c k)))
+        (λ k. held-read k (i k) n (h k) est (both k) refl refl (z k)) k
+
+    pub window-open : minus (slotAt x k (i k) .h) (slotAt x k (i k) .s) ≡ 4
+    window-open = whole-window (held k (i k) n (h k) .stands) (ranges-of m k n) opens
+
+    pub send-accepted : (payload : List ℕ) (room : ℕ) → length payload ≤ place → headerLength + length payload ≤ room
+        → replyTo (sized place) (record { side = k; call = Send (slotAt x k (i k) .sid) payload room }) (x .world) .number ≡ 0
+    send-accepted payload room f g =
+        let a = held k (i k) n (h k) in
+        let B = half k (W .lanes n) in
+        ap (λ (r : Reply). r .number) (acted-sending m (record { listed = a .listed; name = sym (a .stands .sid) }) payload room .reply)
+        ∙ ap (λ (s : St). send payload (sendRoom place payload room) s B .ans) (both k)
+        ∙ rw (le-ltb place (length payload) f, lt-leb (B .high) (sOf B) (omega (arith, opens)), le-ltb room (headerLength + length payload) g)

@@ -1,0 +1,115 @@
+-- A packet that is taken with 0 is filed with the session that sent it: in its slot and that slot's four places, and nowhere else. A SYN goes
+-- into the lowest free slot, and stores nothing.
+use Prim.Native.Nat.{ℕ, suc, _*_, _≤_, _<_}
+use native.Mathlib.Omega.{arith}
+use native.Mathlib.Nat.{mul-suc}
+use mathlib.Core.Path.{_≡_, refl, sym, ap, _∙_, subst}
+use mathlib.Core.Logic.{_⊎_, inl, inr}
+use mathlib.Core.Bool.{not}
+use mathlib.Core.List.{List, [], _∷_}
+use mathlib.Core.Option.{some}
+use lib.ListN.{length, getD, take}
+use lib.Seq.{getD-set-other}
+use lib.Dec.{eqb}
+use borrow.Author.Tests.{eq-eqb}
+use Rattle.wire.specs.declared.header.Header.{Header}
+use Rattle.wire.specs.declared.kind.Kind.the-variants.{Syn}
+use Rattle.wire.specs.Packet.{flagsValue}
+use Rattle.session.specs.declared.record.Session.{Session}
+use Rattle.session.specs.Record.{free, inUse, freshOf}
+use Rattle.session.specs.Taken.{cellOf}
+use Rattle.table.specs.Slots.{lowestFree}
+use Rattle.table.specs.End.{putOf}
+use Rattle.table.proofs.Lowest.{lowest-unused}
+use Rattle.table.proofs.Parts.{Outside, below, above}
+use Rattle.smp.specs.declared.take.Taken.{Taken}
+use Rattle.smp.specs.Open.{synHeader}
+use Rattle.smp.specs.Take.{takenOn, takeDone, takeOf}
+use Rattle.lane.specs.Side.{Side, other, server}
+use Rattle.lane.proofs.World.{Item, syn, World}
+use Rattle.lane.proofs.Acts.{Act, greet}
+use Rattle.lane.proofs.Heads.{syn-known}
+use Rattle.pair.specs.World.{Party, Sizes, sized}
+use Rattle.pair.specs.Step.{Take, Step, did, acted, reached}
+use Rattle.pair.specs.Whose.{Notes, owners}
+use Rattle.pair.specs.History.{Scene, Entry, entry, history}
+use Rattle.pair.specs.Claims.{Every, IsTake, slotAt, OwnSlot}
+use Rattle.pair.proofs.Bytes.Encoded.{kindOf, headerFor, synFor, not-syn}
+use Rattle.pair.proofs.Record.Places.{kept-outside}
+use Rattle.pair.proofs.Mirror.Scene.{slot, Mirror}
+use Rattle.pair.proofs.Mirror.Sides.{with-own}
+use Rattle.pair.proofs.Mirror.Channels.{front-sender}
+use Rattle.pair.proofs.Steps.Performs.{Given, Performs, opening, greeting, taking, sending, reading, closing, Acted}
+use Rattle.pair.proofs.Steps.Greeting.{greeting-room, greeting-answer, greeting-storage}
+use Rattle.pair.proofs.Steps.Delivering.{taking-slot, taking-answer, taking-lent, taking-storage}
+use Rattle.pair.proofs.History.Along.{Along, over, rests, acts}
+
+-- ---- a take that puts the record y into slot i
+
+module _ (place : ℕ) (x : Scene) (k : Side) (given lent : ℕ) where
+  abbrev step : Step
+  step = record { side = k; call = Take given lent }
+
+  abbrev made : Entry
+  made = entry (sized place) x step
+
+  abbrev p : Party
+  p = x .world k
+
+  party : made .after .world k ≡ acted (did (sized place) (Take given lent) p) p
+  party = with-own k (acted (did (sized place) (Take given lent) p) p) (reached [] (x .world (other k))) (x .world)
+
+  filed : (i : ℕ) (y : Session) (h : Header) → takeOf (sized place) (p .end) (take given (p .coming)) (length (take lent (p .storage))) ≡ takeDone h (putOf i y (p .end))
+      → (n : ℕ) → made .whose ≡ some n → owners (Take given lent) p (made .whose) (made .reply) (x .book .notes k .owner) i ≡ n
+      → inUse (slotAt x k i .state) ≡ not (eqb (h .flags) (flagsValue Syn))
+      → ((o : ℕ) → Outside (4 * place * i) (4 * place) o → getD (did (sized place) (Take given lent) p .storage) o 0 ≡ getD (p .storage) o 0) → OwnSlot place made
+  filed i y h answer n whose owner found bytes = record {
+    slot = i;
+    session = whose ∙ ap some (sym (ap (λ (b : Notes). b .owner i) (with-own k _ _ (x .book .notes)) ∙ owner));
+    found = found ∙ ap (λ (r : Taken). not (eqb (r .kind) (flagsValue Syn))) (sym answer);
+    others = λ j d. ap (λ (q : Party). getD (q .end .slots) j free) party ∙ ap (λ (r : Taken). getD (r .end .slots) j free) answer
+        ∙ getD-set-other (p .end .slots) i j y free d;
+    bytes = λ o u. ap (λ (q : Party). getD (q .storage) o 0) party ∙ bytes o (outside o u);
+  }
+    where
+      outside : (o : ℕ) → (o < 4 * place * i) ⊎ (4 * place * suc i ≤ o) → Outside (4 * place * i) (4 * place) o
+      outside o (inl u) = below u
+      outside o (inr u) = above (omega (arith, mul-suc (4 * place) i))
+
+-- ---- a run
+
+module _ {slots place : ℕ} (z : Sizes slots place) where
+  greet-filed : {x : Scene} {W : World} {l : List Item} (m : Mirror slots place x W) (given lent : ℕ) → W .chan server ≡ syn (W .known) ∷ l
+      → Given slots place (x .world server) (synFor (W .sid (W .known))) given lent
+      → Acted slots place x W (record { side = server; call = Take given lent }) greet
+      → OwnSlot place (entry (sized place) x (record { side = server; call = Take given lent }))
+  greet-filed {x} {W} m given lent e g d =
+      let i = lowestFree (x .world server .end .slots) in
+      let answer = greeting-answer z m given lent e g in
+      filed place x server given lent i (freshOf (W .sid (W .known))) (synHeader (W .sid (W .known))) answer (W .known) (d .whose)
+      (rw (answer, front-sender (m .at server) e, eq-eqb i i refl)) (lowest-unused (x .world server .end .slots) (greeting-room z m given lent e g))
+      (λ o u. ap (λ (b : List ℕ). getD b o 0) (greeting-storage z m given lent e g))
+
+  act-filed : {x : Scene} {W : World} {s : Step} {a : Act} → Mirror slots place x W → Performs slots place x W s a → Acted slots place x W s a
+      → IsTake (s .call) → OwnSlot place (entry (sized place) x s)
+  act-filed m (opening h r) d t = absurd t
+  act-filed m (sending i) d t = absurd t
+  act-filed m (reading i) d t = absurd t
+  act-filed m (closing i) d t = absurd t
+  act-filed {x} {W} m (greeting {given} {lent} {n} {l} e g) d t =
+      let q = syn-known (m .inv) n l e in
+      greet-filed m given lent (e ∙ ap (λ (j : ℕ). syn j ∷ l) q) (subst (λ (j : ℕ). Given slots place (x .world server) (synFor (W .sid j)) given lent) q g) d
+  act-filed {x} {W} m (taking {k} {given} {lent} {n} {p} e g) d t =
+      let f = taking-slot z m e given lent g in
+      filed place x k given lent (f .index) (takenOn (kindOf p) (headerFor (W .sid n) p) (slot (x .world k) (f .index))) (headerFor (W .sid n) p)
+      (taking-answer z m e given lent g) n (d .whose)
+      (rw (taking-answer z m e given lent g, not-syn p) (f .owner)) (rw (not-syn p) (f .used))
+      (λ o u. ap (λ (b : List ℕ). getD b o 0) (taking-storage z m e given lent g)
+      ∙ kept-outside (cellOf (slot (x .world k) (f .index) .state) (kindOf p)) (taking-lent z m e given lent g) o u)
+
+  pub run-filed : {x : Scene} {W : World} {ss : List Step} {t : List Act} → Along slots place x W ss t
+      → Every (λ (e : Entry). IsTake (e .step .call) → e .reply .number ≡ 0 → OwnSlot place e) (history (sized place) x ss)
+  unfolding history
+  run-filed (over m) = tt
+  run-filed (rests m r l) = (λ t n. absurd (r .refused n), run-filed l)
+  run-filed (acts m p d l) = (λ t n. act-filed m p d t, run-filed l)

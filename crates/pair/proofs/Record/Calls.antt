@@ -1,0 +1,216 @@
+-- Send, close and read on a record are send, close and read on the half that it stands for: the same number, and what becomes of the record, the
+-- packet and the payload are the half's. The payload that is read is the oldest unread one.
+use Prim.Native.Nat.{ℕ, suc, _+_, _%_, _^_, _<_}
+use native.Mathlib.Omega.{arith}
+use mathlib.Core.Path.{_≡_, refl, sym, ap, _∙_, subst}
+use mathlib.Core.Bool.{true, not, Bool, false, _&&_, _||_, or-comm, or-assoc}
+use mathlib.Core.List.{List, [], _∷_, append-nil, _++_}
+use lib.ListN.{length, length-append, getD, take, drop}
+use lib.Dec.{ltb, eqb}
+use borrow.Author.Tests.{eq-eqb, ne-eqb}
+use Rattle.first.specs.Cases.{if}
+use Rattle.first.proofs.Tests.{never}
+use Rattle.wire.specs.declared.header.Header.{Header}
+use Rattle.wire.specs.declared.kind.Kind.{Kind}
+use Rattle.wire.specs.declared.kind.Kind.the-variants.{Data, Fin, Ack}
+use Rattle.wire.specs.Packet.{headerLength, packetBytes, headerBytes, headerOf}
+use Rattle.session.specs.declared.record.State.{State}
+use Rattle.session.specs.declared.record.State.the-variants.{FinSent}
+use Rattle.session.specs.declared.record.Session.{Session}
+use Rattle.session.specs.Counter.{plus, minus}
+use Rattle.session.specs.Record.{inUse, established, finSent, finReceived, unread, oldest, place}
+use Rattle.session.specs.Calls.{sentOn, withState, closedIn, closedOn, readOn}
+use Rattle.session.proofs.Wrap.{plus-counts, same-counts, place-counts, back-counts}
+use Rattle.table.specs.Storage.{placeStart}
+use Rattle.smp.specs.Send.{sendCases, dataHeader}
+use Rattle.smp.specs.Read.{oldestLength, readCases, ackHeader, ackOn, oldestIn}
+use Rattle.smp.specs.Close.{closeCases, finHeader}
+use Rattle.lane.proofs.Half.{Bytes, St, est, fs, fr, gone, Body, sOf, gOf, dat, Out, Room, sent, shut, tight, send, fin, ending, close, ack, later, cramped, readOne}
+use Rattle.lane.proofs.Half.{readLast, readE, readR, read}
+use Rattle.lane.proofs.Inv.{Ranges}
+use Rattle.pair.specs.World.{sized}
+use Rattle.pair.proofs.Bytes.Encoded.{packetFor, headerFor, handed}
+use Rattle.pair.proofs.Record.Stands.{stateOf, Stands, turned-stands, unread-counts, Lies, lies-place}
+use Rattle.pair.proofs.Record.Does.{stands, Done, Does, does-skip, does-stop, does-test, does-done, freed}
+
+-- the headers of two packets of one kind and length
+header-counts : (k : Kind) (n : ℕ) {sid sid' q q' w w' : ℕ} → sid ≡ sid' → q ≡ q' → w ≡ w' → headerOf k sid n q w ≡ headerOf k sid' n q' w'
+header-counts k n a b c = cc
+
+-- ---- send
+
+module _ {size i : ℕ} {storage : List ℕ} {x : Session} {sid : ℕ} {B : Body} where
+  -- the next SEQNUM
+  next : {st : St} → Stands size i storage x sid st B → plus (x .s) 1 ≡ suc (sOf B) % 2 ^ 32
+  next a = rw (a .s) (plus-counts (sOf B) 1 ∙ ap (λ (n : ℕ). n % 2 ^ 32) (omega arith))
+
+  sent-stands : Stands size i storage x sid est B → (p : Bytes) → Stands size i storage (sentOn x) sid est (sent B p .body)
+  sent-stands a p = record {
+    sid = a .sid;
+    state = a .state;
+    s = next a ∙ ap (λ (n : ℕ). n % 2 ^ 32) (omega (arith, length-append (B .acc) (p ∷ [])));
+    h = a .h;
+    r = a .r;
+    g = a .g;
+    four = a .four;
+    small = a .small;
+    ring = a .ring;
+  }
+
+  sent-packet : Stands size i storage x sid est B → (p : Bytes) → packetBytes (dataHeader x (length p)) p ≡ packetFor sid (dat (suc (sOf B)) (gOf B) p)
+  sent-packet a p = ap (λ (h : Header). packetBytes h p) (header-counts Data (headerLength + length p) (a .sid) (next a) (a .g))
+
+  pub send-does : (s : St) → Stands size i storage x sid s B → Ranges B → inUse (stateOf s) ≡ true → (p : Bytes) (R : Room) → R .big ≡ ltb size (length p)
+      → Does (Done size i storage (sentOn x) sid (packetBytes (dataHeader x (length p)) p) []) s B
+      (sendCases (sized size) x (length p) (R .buf)) (send p R s B)
+  send-does est a b u p R big =
+      does-skip (ap (λ (st : State). not (established st)) (a .state))
+      (does-test (R .big) _ (sym big) (omega arith)
+      (does-test (shut B) _ (rw (a .s, a .h) (same-counts (sOf B) (B .high) (b .fit) (b .high))) (omega arith)
+      (does-test (tight R p) _ refl (omega arith)
+      (does-done (sent B p) refl (record { after = stands refl (sent-stands a p); packet = sent-packet a p; payload = refl })))))
+  send-does fs a b u p R big = does-stop (ap (λ (st : State). not (established st)) (a .state)) (omega arith)
+  send-does fr a b u p R big = does-stop (ap (λ (st : State). not (established st)) (a .state)) (omega arith)
+  send-does gone a b u p R big = never u
+
+-- ---- close
+
+module _ {size i : ℕ} {storage : List ℕ} {x : Session} {sid : ℕ} {B : Body} where
+  closed-packet : {s : St} → Stands size i storage x sid s B → headerBytes (finHeader x) ≡ packetFor sid (fin (sOf B) (gOf B))
+  closed-packet a = ap headerBytes (header-counts Fin headerLength (a .sid) (a .s) (a .g)) ∙ sym (append-nil (headerBytes (headerFor sid (fin (sOf B) (gOf B)))))
+
+  pub close-does : (s : St) → Stands size i storage x sid s B → inUse (stateOf s) ≡ true → (R : Room)
+      → Does (Done size i storage (closedOn x) sid (headerBytes (finHeader x)) []) s B (closeCases x (R .buf)) (close R s B)
+  close-does est a u R =
+      does-skip (ap finSent (a .state))
+      (does-test (ltb (R .buf) 16) _ refl (omega arith)
+      (does-done (ending fs B) refl (record { after = stands refl (rw closes (turned-stands fs a)); packet = closed-packet a; payload = refl })))
+    where
+      closes : closedOn x ≡ withState FinSent x
+      closes = ap (λ (st : State). closedIn st x) (a .state)
+  close-does fs a u R = does-stop (ap finSent (a .state)) (omega arith)
+  close-does fr a u R =
+      does-skip (ap finSent (a .state))
+      (does-test (ltb (R .buf) 16) _ refl (omega arith)
+      (does-done (ending gone B) refl (record { after = freed refl (ap (λ (st : State). closedIn st x) (a .state)); packet = closed-packet a; payload = refl })))
+  close-does gone a u R = never u
+
+-- ---- read
+
+-- the record, the ACK and the payload that a read makes are those of the half's step, and the length that it tells is the payload's
+pub record Reads (size i : ℕ) (storage : List ℕ) (x : Session) (sid : ℕ) (o : Out) : Type 0 where
+  pub done : Done size i storage (readOn x) sid (ackOn x) (oldestIn (sized size) i x storage) o
+  pub long : oldestLength x ≡ length (handed (o .pay))
+
+-- the test of 9, in the half's order
+in-turn : (a b c : Bool) → a || (b || c) ≡ (a || c) || b
+in-turn a b c = ap (λ (d : Bool). a || d) (or-comm b c) ∙ sym (or-assoc a c b)
+
+module _ {size i : ℕ} {storage : List ℕ} {x : Session} {sid : ℕ} {B : Body} where
+  module _ {st : St} (a : Stands size i storage x sid st B) where
+    -- G after the read
+    later-g : (p : Bytes) (u : List Bytes) → plus (x .g) 1 ≡ gOf (later B p u) % 2 ^ 32
+    later-g p u = rw (a .g) (plus-counts (gOf B) 1 ∙ ap (λ (n : ℕ). n % 2 ^ 32) (omega (arith, length-append (B .got) (p ∷ []))))
+
+    -- the place of the oldest
+    oldest-place : place (oldest x) ≡ place (length (B .got) + 1 + 0)
+    oldest-place =
+        ap (λ (n : ℕ). place (minus n 3)) (a .g ∙ ap (λ (n : ℕ). n % 2 ^ 32) (omega arith))
+        ∙ ap place (back-counts (length (B .got) + 1 + 0) 3 (omega arith))
+        ∙ place-counts (length (B .got) + 1 + 0)
+
+    -- where p is the oldest unread payload
+    module _ (p : Bytes) (u : List Bytes) (e : B .unread ≡ p ∷ u) where
+      -- its length stands in the record, its bytes in the storage
+      oldest-holds : Lies size i storage (x .lens) (oldest x) p
+      oldest-holds =
+          lies-place (oldest x) (length (B .got) + 1 + 0) oldest-place
+          (subst (λ (q : Bytes). Lies size i storage (x .lens) (length (B .got) + 1 + 0) q) (ap (λ (l : List Bytes). getD l 0 []) e)
+          (a .ring 0 (omega (arith, ap length e))))
+
+      oldest-bytes : oldestIn (sized size) i x storage ≡ p
+      oldest-bytes = ap (λ (n : ℕ). take n (drop (placeStart size i (oldest x)) storage)) (oldest-holds .long) ∙ oldest-holds .bytes
+
+      read-stands : Stands size i storage (readOn x) sid st (later B p u)
+      read-stands = record {
+        sid = a .sid;
+        state = a .state;
+        s = a .s;
+        h = a .h;
+        r = a .r ∙ ap (λ (n : ℕ). n % 2 ^ 32) (omega (arith, length-append (B .got) (p ∷ []), ap length e));
+        g = later-g p u;
+        four = a .four;
+        small = a .small;
+        ring = ring;
+      }
+        where
+          ring : (j : ℕ) → j < length u → Lies size i storage (x .lens) (length (B .got ++ (p ∷ [])) + 1 + j) (getD u j [])
+          ring j h =
+              let n : length (B .got) + 1 + suc j ≡ length (B .got ++ (p ∷ [])) + 1 + j = omega (arith, length-append (B .got) (p ∷ [])) in
+              subst (λ (k : ℕ). Lies size i storage (x .lens) k (getD u j [])) n
+              (subst (λ (q : Bytes). Lies size i storage (x .lens) (length (B .got) + 1 + suc j) q) (ap (λ (l : List Bytes). getD l (suc j) []) e)
+              (a .ring (suc j) (omega (arith, ap length e))))
+
+      -- 9's test goes by the payload's length
+      nine : (R : Room) → ltb (R .pay) (oldestLength x) || (established (x .state) && ltb (R .buf) headerLength || R .short)
+          ≡ ltb (R .pay) (length p) || (established (stateOf st) && ltb (R .buf) headerLength || R .short)
+      nine R =
+          ap (λ (n : ℕ). ltb (R .pay) n || (established (x .state) && ltb (R .buf) headerLength || R .short)) (oldest-holds .long)
+          ∙ ap (λ (t : State). ltb (R .pay) (length p) || (established t && ltb (R .buf) headerLength || R .short)) (a .state)
+
+      some-unread : Ranges B → finSent (stateOf st) ≡ false → inUse (stateOf st) ≡ true → eqb (unread x) 0 ≡ false
+      some-unread b f v = ne-eqb (unread x) 0 (λ z. omega (arith, unread-counts a b f v, ap length e))
+
+    no-unread : Ranges B → finSent (stateOf st) ≡ false → inUse (stateOf st) ≡ true → B .unread ≡ [] → eqb (unread x) 0 ≡ true
+    no-unread b f v e = eq-eqb (unread x) 0 (unread-counts a b f v ∙ ap length e)
+
+    -- the tests of 8 and 11, and what is emitted, go by the half's state
+    eight : established (x .state) && eqb (unread x) 0 ≡ established (stateOf st) && eqb (unread x) 0
+    eight = ap (λ (t : State). established t && eqb (unread x) 0) (a .state)
+
+    eleven : finReceived (x .state) && eqb (unread x) 0 ≡ finReceived (stateOf st) && eqb (unread x) 0
+    eleven = ap (λ (t : State). finReceived t && eqb (unread x) 0) (a .state)
+
+    emits : ackOn x ≡ if (established (stateOf st)) (headerBytes (ackHeader x)) []
+    emits = ap (λ (t : State). if (established t) (headerBytes (ackHeader x)) []) (a .state)
+
+  read-est : (R : Room) → Ranges B → Stands size i storage x sid est B → (l : List Bytes) → B .unread ≡ l
+      → Does (Reads size i storage x sid) est B (readCases x (R .pay) (R .buf) (R .short)) (readE l R B)
+  read-est R b a [] e = does-skip (ap finSent (a .state)) (does-stop (eight a ∙ no-unread a b refl refl e) (omega arith))
+  read-est R b a (p ∷ u) e =
+      does-skip (ap finSent (a .state))
+      (does-skip (eight a ∙ some-unread a p u e b refl refl)
+      (does-skip (eleven a)
+      (does-test (cramped R p || ltb (R .buf) 16) (readOne B p u)
+      (nine a p u e R ∙ in-turn (ltb (R .pay) (length p)) (ltb (R .buf) 16) (R .short)) (omega arith)
+      (does-done (readOne B p u) refl (record {
+        done = record { after = stands refl (read-stands a p u e); packet = packet; payload = oldest-bytes a p u e };
+        long = oldest-holds a p u e .long;
+      })))))
+    where
+      packet : ackOn x ≡ packetFor sid (ack (sOf B) (gOf (later B p u)))
+      packet =
+          emits a
+          ∙ ap headerBytes (header-counts Ack headerLength (a .sid) (a .s) (later-g a p u))
+          ∙ sym (append-nil (headerBytes (headerFor sid (ack (sOf B) (gOf (later B p u))))))
+
+  read-fr : (R : Room) → Ranges B → Stands size i storage x sid fr B → (l : List Bytes) → B .unread ≡ l
+      → Does (Reads size i storage x sid) fr B (readCases x (R .pay) (R .buf) (R .short)) (readR l R B)
+  read-fr R b a [] e =
+      does-skip (ap finSent (a .state)) (does-skip (eight a) (does-stop (eleven a ∙ no-unread a b refl refl e) (omega arith)))
+  read-fr R b a (p ∷ u) e =
+      does-skip (ap finSent (a .state))
+      (does-skip (eight a)
+      (does-skip (eleven a ∙ some-unread a p u e b refl refl)
+      (does-test (cramped R p) (readLast B p u) (nine a p u e R) (omega arith)
+      (does-done (readLast B p u) refl (record {
+        done = record { after = stands refl (read-stands a p u e); packet = emits a; payload = oldest-bytes a p u e };
+        long = oldest-holds a p u e .long;
+      })))))
+
+  pub read-does : (s : St) → Stands size i storage x sid s B → Ranges B → inUse (stateOf s) ≡ true → (R : Room)
+      → Does (Reads size i storage x sid) s B (readCases x (R .pay) (R .buf) (R .short)) (read R s B)
+  read-does est a b u R = read-est R b a (B .unread) refl
+  read-does fr a b u R = read-fr R b a (B .unread) refl
+  read-does fs a b u R = does-stop (ap finSent (a .state)) (omega arith)
+  read-does gone a b u R = never u

@@ -1,0 +1,156 @@
+-- A record with its four places in the storage stands for a half of a session, whose counters don't wrap: what that says, and what it gives.
+-- In use, such a record is in order; a fresh one stands for a fresh half.
+use Prim.Native.Nat.{ℕ, _+_, _-_, _*_, _%_, _^_, _≤_, _<_}
+use native.Mathlib.Omega.{arith}
+use native.Mathlib.Nat.{mod-lt}
+use mathlib.Core.Path.{_≡_, refl, sym, ap, _∙_}
+use mathlib.Core.Bool.{true, false}
+use mathlib.Core.List.{List, []}
+use lib.ListN.{length, getD, take, drop, getD-replicate}
+use lib.Dec.{T}
+use Rattle.first.proofs.Tests.{never}
+use Rattle.session.specs.declared.record.State.{State}
+use Rattle.session.specs.declared.record.State.the-variants.{Closed, Established, FinSent, FinReceived}
+use Rattle.session.specs.declared.record.Session.{Session}
+use Rattle.session.specs.Counter.{minus, plus}
+use Rattle.session.specs.Record.{window, inUse, finSent, freshOf, unread, unreadIn, place}
+use Rattle.session.specs.Well.{InOrder}
+use Rattle.session.specs.Calls.{withState}
+use Rattle.session.proofs.Wrap.{minus-counts, plus-counts}
+use Rattle.table.specs.Storage.{placeStart}
+use Rattle.lane.proofs.Half.{Bytes, St, est, fs, fr, gone, Body, sOf, gOf, rOf, fresh}
+use Rattle.lane.proofs.Inv.{Ranges}
+use Rattle.lane.proofs.World.{live}
+
+abbrev pub stateOf : St → State
+stateOf est = Established
+stateOf fs = FinSent
+stateOf fr = FinReceived
+stateOf gone = Closed
+
+abbrev stFor : State → St
+stFor Established = est
+stFor FinSent = fs
+stFor FinReceived = fr
+stFor Closed = gone
+
+st-back : (s : St) → stFor (stateOf s) ≡ s
+st-back est = refl
+st-back fs = refl
+st-back fr = refl
+st-back gone = refl
+
+-- a state is one half's
+pub state-one : (s t : St) → stateOf s ≡ stateOf t → s ≡ t
+state-one s t e = sym (st-back s) ∙ ap stFor e ∙ st-back t
+
+-- a half is in use unless it is gone
+pub live-used : (s : St) → T (live s) → inUse (stateOf s) ≡ true
+live-used est t = refl
+live-used fs t = refl
+live-used fr t = refl
+live-used gone t = absurd t
+
+pub used-live : (s : St) → inUse (stateOf s) ≡ true → T (live s)
+used-live est u = tt
+used-live fs u = tt
+used-live fr u = tt
+used-live gone u = never u
+
+-- the payload p lies in the place of SEQNUM q in slot i: its length stands in the record, its bytes in the storage
+pub record Lies (size i : ℕ) (storage lens : List ℕ) (q : ℕ) (p : Bytes) : Type 0 where
+  pub long : getD lens (place q) 0 ≡ length p
+  pub bytes : take (length p) (drop (placeStart size i q) storage) ≡ p
+
+-- the record x of slot i, where a place has `size` bytes, stands under the SID `name` for the half st, B
+pub record Stands (size i : ℕ) (storage : List ℕ) (x : Session) (name : ℕ) (st : St) (B : Body) : Type 0 where
+  pub sid : x .sid ≡ name
+  pub state : x .state ≡ stateOf st
+  pub s : x .s ≡ sOf B % 2 ^ 32
+  pub h : x .h ≡ B .high % 2 ^ 32
+  pub r : x .r ≡ rOf B % 2 ^ 32
+  pub g : x .g ≡ gOf B % 2 ^ 32
+  pub four : length (x .lens) ≡ 4
+  pub small : (k : ℕ) → k < 4 → getD (x .lens) k 0 ≤ size
+  pub ring : (j : ℕ) → j < length (B .unread) → Lies size i storage (x .lens) (length (B .got) + 1 + j) (getD (B .unread) j [])
+
+-- a place goes by its SEQNUM modulo 4
+pub lies-place : {size i : ℕ} {storage lens : List ℕ} (q q' : ℕ) {p : Bytes} → place q ≡ place q' → Lies size i storage lens q' p → Lies size i storage lens q p
+lies-place {size} {i} {storage} {lens} q q' {p} e a = record {
+  long = ap (λ (k : ℕ). getD lens k 0) e ∙ a .long;
+  bytes = ap (λ (k : ℕ). take (length p) (drop (4 * size * i + size * k) storage)) e ∙ a .bytes;
+}
+
+-- an unread payload is no longer than its place
+pub unread-bound : {size i : ℕ} {storage : List ℕ} {x : Session} {sid : ℕ} {st : St} {B : Body} → Stands size i storage x sid st B
+    → (j : ℕ) → j < length (B .unread) → length (getD (B .unread) j []) ≤ size
+unread-bound {B = B} a j h = omega (arith, a .ring j h .long, a .small (place (length (B .got) + 1 + j)) (mod-lt (length (B .got) + 1 + j) (omega arith)))
+
+-- ---- a fresh record
+
+pub fresh-stands : (size i : ℕ) (storage : List ℕ) (sid : ℕ) → Stands size i storage (freshOf sid) sid est fresh
+fresh-stands size i storage sid = record {
+  sid = refl;
+  state = refl;
+  s = refl;
+  h = refl;
+  r = refl;
+  g = refl;
+  four = refl;
+  small = λ k h. omega (arith, getD-replicate {A = ℕ} 4 k 0 0 h);
+  ring = λ j h. absurd (omega arith);
+}
+
+-- ---- only the state changes
+
+pub turned-stands : {size i : ℕ} {storage : List ℕ} {x : Session} {sid : ℕ} {st : St} {B : Body} (t : St) → Stands size i storage x sid st B
+    → Stands size i storage (withState (stateOf t) x) sid t B
+turned-stands t a = record {
+  sid = a .sid;
+  state = refl;
+  s = a .s;
+  h = a .h;
+  r = a .r;
+  g = a .g;
+  four = a .four;
+  small = a .small;
+  ring = a .ring;
+}
+
+-- ---- in use, and its counters' differences over numbers that don't wrap
+
+pub stands-used : {size i : ℕ} {storage : List ℕ} {x : Session} {sid : ℕ} {st : St} {B : Body} → Stands size i storage x sid st B
+    → inUse (stateOf st) ≡ true → inUse (x .state) ≡ true
+stands-used a u = ap inUse (a .state) ∙ u
+
+module _ {size i : ℕ} {storage : List ℕ} {x : Session} {sid : ℕ} {st : St} {B : Body} (a : Stands size i storage x sid st B) (b : Ranges B) where
+  -- what the peer still lets us send
+  pub window-counts : minus (x .h) (x .s) ≡ B .high - sOf B
+  window-counts = rw (a .h, a .s) (minus-counts (sOf B) (B .high) (b .fit) (omega (arith, b .high)))
+
+  pub whole-window : B .high ≡ sOf B + window → minus (x .h) (x .s) ≡ window
+  whole-window e = window-counts ∙ omega arith
+
+  -- what we still let the peer send
+  pub room-counts : minus (x .g) (x .r) ≡ gOf B - rOf B
+  room-counts = rw (a .g, a .r) (minus-counts (rOf B) (gOf B) (b .room) (omega arith))
+
+  waiting : minus (plus (x .r) window) (x .g) ≡ length (B .unread)
+  waiting = rw (a .g, a .r, plus-counts (rOf B) window) (minus-counts (gOf B) (rOf B + window) (omega arith) (omega (arith, b .room)) ∙ omega arith)
+
+  -- the packets unread, in ESTABLISHED and in FIN RECEIVED
+  pub unread-counts : finSent (stateOf st) ≡ false → inUse (stateOf st) ≡ true → unread x ≡ length (B .unread)
+  unread-counts f u = ap (λ (t : State). unreadIn t x) (a .state) ∙ by st f u
+    where
+      by : (t : St) → finSent (stateOf t) ≡ false → inUse (stateOf t) ≡ true → unreadIn (stateOf t) x ≡ length (B .unread)
+      by est f u = waiting
+      by fr f u = waiting
+      by fs f u = never (sym f)
+      by gone f u = never u
+
+  -- it is in order
+  pub stands-order : inUse (stateOf st) ≡ true → InOrder window size x
+  stands-order u = record {
+    used = λ _. record { send = omega (arith, window-counts, b .high); receive = omega (arith, room-counts); lengths = a .small };
+    free = λ e. never (sym e ∙ stands-used a u);
+  }

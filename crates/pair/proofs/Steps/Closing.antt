@@ -1,0 +1,62 @@
+-- A close that names a lane's SID performs the lane's close.
+use Prim.Native.Nat.{ℕ}
+use native.Mathlib.Omega.{arith}
+use mathlib.Core.Path.{refl, sym, ap, ap₂, _∙_, subst}
+use mathlib.Core.List.{List}
+use lib.Dec.{T}
+use Rattle.first.proofs.First.{done-0, done-not}
+use Rattle.wire.specs.Packet.{headerBytes}
+use Rattle.wire.proofs.Headers.{header-length}
+use Rattle.session.specs.Calls.{closedOn}
+use Rattle.table.specs.End.{putOf}
+use Rattle.smp.specs.declared.close.Closed.{Closed}
+use Rattle.smp.specs.Close.{finHeader}
+use Rattle.lane.specs.Side.{Side}
+use Rattle.lane.proofs.Half.{St, Body, Out, Room, close}
+use Rattle.lane.proofs.Outcomes.{close-all}
+use Rattle.lane.proofs.Lane.{half, stOf, shut, moved}
+use Rattle.lane.proofs.Tables.{has}
+use Rattle.lane.proofs.World.{World}
+use Rattle.lane.proofs.Acts.{turn}
+use Rattle.pair.specs.World.{Party, sized}
+use Rattle.pair.specs.Step as step
+use Rattle.pair.specs.Step.{Close, emitting, did}
+use Rattle.pair.specs.History.{Scene}
+use Rattle.pair.proofs.Bytes.CallAt.{close-answer, close-packet}
+use Rattle.pair.proofs.Record.Calls.{close-does}
+use Rattle.pair.proofs.Mirror.Scene.{slot, SlotFor, Mirror}
+use Rattle.pair.proofs.Mirror.Facts.{lane-used, good-at, lane-at, lane-stands, named-is, Names}
+use Rattle.pair.proofs.Mirror.Channels.{FitsIn}
+use Rattle.pair.proofs.Steps.Performs.{closeRoom, Acted}
+use Rattle.pair.proofs.Steps.OwnCall.{Outcome, outcome, acted-call}
+
+-- a FIN has no payload
+close-fits : (place : ℕ) (R : Room) (s : St) (B : Body) → FitsIn place (close R s B .emit)
+close-fits place R s B = close-all (λ (o : Out). FitsIn place (o .emit)) B R s (λ n a b. tt) (λ e. omega arith) (λ e. omega arith)
+
+-- what the call gives at its side, by its answer and its packet
+abbrev gives : Party → Closed → List ℕ → step.Done
+gives p r bytes = record { reply = emitting (r .number) 0 (r .length) bytes; end = r .end; storage = p .storage }
+
+close-outcome : {slots place : ℕ} {x : Scene} {W : World} (m : Mirror slots place x W) {k : Side} {n : ℕ} (t : T (has n (W .table k)))
+    (f : SlotFor slots (x .world k) (x .book .notes k) n) (room : ℕ)
+    → Outcome place (f .index) (x .world k) (W .sid n) (moved k (shut (closeRoom room)) (W .lanes n) .out) (did (sized place) (Close (W .sid n) room) (x .world k))
+close-outcome {place = place} {x} {W} m {k} {n} t f room =
+    let p = x .world k in
+    let s = slot p (f .index) in
+    let answer = close-answer (sized place) (p .end) (good-at m k) (m .at k .up) (W .sid n) (f .index) (lane-at m k n t f) room in
+    let packet = close-packet (sized place) (p .end) (good-at m k) (m .at k .up) (W .sid n) (f .index) (lane-at m k n t f) room in
+    outcome (lane-stands m k n f) (lane-used m k n t) _ (close-does (stOf k (W .lanes n)) (lane-stands m k n f) (lane-used m k n t) (closeRoom room)) (λ d. d)
+    (λ z d. ap₂ (gives p) (answer ∙ done-0 _ _ _ z) (packet ∙ done-0 _ _ _ z)
+    ∙ ap (λ (l : ℕ). gives p (record { number = 0; length = l; end = putOf (f .index) (closedOn s) (p .end) }) (headerBytes (finHeader s)))
+    (sym (header-length (finHeader s))))
+    (λ h. ap₂ (gives p) (answer ∙ done-not _ _ _ h) (packet ∙ done-not _ _ _ h))
+
+pub acted-closing : {slots place : ℕ} {x : Scene} {W : World} → Mirror slots place x W → {k : Side} {n sid : ℕ} → Names W k n sid → (room : ℕ)
+    → Acted slots place x W (record { side = k; call = Close sid room }) (turn k n (shut (closeRoom room)))
+acted-closing {slots} {place} {x} {W} m {k} {n} a room =
+    let f = m .at k .found n (a .listed) in
+    subst (λ (sid : ℕ). Acted slots place x W (record { side = k; call = Close sid room }) (turn k n (shut (closeRoom room)))) (a .name)
+    (acted-call m (a .listed) f (Close (W .sid n) room) (shut (closeRoom room)) tt refl refl refl refl refl (named-is m k n (a .listed))
+    (close-outcome m (a .listed) f room)
+    (close-fits place (closeRoom room) (stOf k (W .lanes n)) (half k (W .lanes n))))

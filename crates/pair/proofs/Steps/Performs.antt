@@ -1,0 +1,127 @@
+-- Which act on lanes a step of the pair performs, what reply that act gets, and what it comes to. A step that performs no act rests: it changes
+-- nothing but what no lane sees, and belongs to no session.
+use Prim.Native.Nat.{ℕ, _≤_, _<_}
+use mathlib.Core.Path.{_≡_}
+use mathlib.Core.Logic.{_≢_}
+use mathlib.Core.Bool.{false}
+use mathlib.Core.List.{List, [], _∷_}
+use mathlib.Core.Option.{none, some}
+use lib.ListN.{length}
+use lib.Dec.{ltb}
+use Rattle.wire.specs.declared.kind.Kind.the-variants.{Syn}
+use Rattle.wire.specs.Packet.{headerLength, flagsValue}
+use Rattle.table.specs.Slots.{smallestSid}
+use Rattle.lane.specs.Side.{Side, client, server}
+use Rattle.lane.proofs.Half.{Packet, Bytes, Out, Room}
+use Rattle.lane.proofs.Lane as lane
+use Rattle.lane.proofs.Lane.{put, get, shut, deliver, moved, toward}
+use Rattle.lane.proofs.World.{Item, syn, pkt, World}
+use Rattle.lane.proofs.Acts.{Act, dial, greet, turn, act, owner}
+use Rattle.pair.specs.World.{Party, sized}
+use Rattle.pair.specs.Step.{Open, Send, Read, Close, Take, Step, Reply, emitting}
+use Rattle.pair.specs.History.{Scene, entry}
+use Rattle.pair.proofs.Bytes.Encoded.{kindOf, packetFor, synFor, emitted, handed}
+use Rattle.pair.proofs.Mirror.Scene.{Mirror}
+use Rattle.pair.proofs.Mirror.Facts.{tooShort, Names}
+
+-- ---- what a lane sees of the things lent
+
+abbrev pub sendRoom : ℕ → Bytes → ℕ → Room
+sendRoom place p room = record { buf = room; pay = 0; short = false; big = ltb place (length p) }
+
+abbrev pub readRoom : ℕ → ℕ → ℕ → ℕ → ℕ → ℕ → Room
+readRoom slots place room ack lent all = record { buf = ack; pay = room; short = tooShort slots place lent all; big = false }
+
+abbrev pub closeRoom : ℕ → Room
+closeRoom room = record { buf = room; pay = 0; short = false; big = false }
+
+-- ---- the act that a step performs
+
+-- the packet at the head is given whole, and the storage is long enough
+pub record Given (slots place : ℕ) (p : Party) (bytes : List ℕ) (given lent : ℕ) : Type 0 where
+  pub whole : length bytes ≤ given
+  pub long : tooShort slots place lent (length (p .storage)) ≡ false
+
+pub data Performs (slots place : ℕ) (x : Scene) (W : World) : Step → Act → Type 0 where
+  opening : {room : ℕ} → headerLength ≤ room → length (W .table client) < slots
+      → Performs slots place x W (record { side = client; call = Open room }) (dial (smallestSid (x .world client .end .slots)))
+  greeting : {given lent n : ℕ} {l : List Item} → W .chan server ≡ syn n ∷ l → Given slots place (x .world server) (synFor (W .sid n)) given lent
+      → Performs slots place x W (record { side = server; call = Take given lent }) greet
+  taking : {k : Side} {given lent n : ℕ} {p : Packet} {l : List Item} → W .chan k ≡ pkt n p ∷ l → Given slots place (x .world k) (packetFor (W .sid n) p) given lent
+      → Performs slots place x W (record { side = k; call = Take given lent }) (turn k n deliver)
+  sending : {k : Side} {n sid room : ℕ} {p : Bytes} → Names W k n sid
+      → Performs slots place x W (record { side = k; call = Send sid p room }) (turn k n (put p (sendRoom place p room)))
+  reading : {k : Side} {n sid room ack lent : ℕ} → Names W k n sid
+      → Performs slots place x W (record { side = k; call = Read sid room ack lent })
+      (turn k n (get (readRoom slots place room ack lent (length (x .world k .storage)))))
+  closing : {k : Side} {n sid room : ℕ} → Names W k n sid
+      → Performs slots place x W (record { side = k; call = Close sid room }) (turn k n (shut (closeRoom room)))
+
+-- ---- the reply that an act gets
+
+abbrev pub takingReply : ℕ → ℕ → ℕ → Reply
+takingReply used kind sid = record {
+  number = 0;
+  sid = sid;
+  used = used;
+  kind = kind;
+  missing = 0;
+  payloadLength = 0;
+  payload = [];
+  packetLength = 0;
+  packet = [];
+}
+
+-- the reply with that number, where these bytes are read and these sent
+abbrev pub answered : ℕ → List ℕ → List ℕ → Reply
+answered number read sent = record {
+  number = number;
+  sid = 0;
+  used = 0;
+  kind = 0;
+  missing = 0;
+  payloadLength = length read;
+  payload = read;
+  packetLength = length sent;
+  packet = sent;
+}
+
+abbrev pub outReply : ℕ → Out → Reply
+outReply sid o = answered (o .ans) (handed (o .pay)) (emitted sid (o .emit))
+
+-- for the packets on their way to the half
+abbrev pub headReply : ℕ → List Packet → Reply
+headReply sid [] = takingReply 0 0 0
+headReply sid (p ∷ l) = takingReply (length (packetFor sid p)) (flagsValue (kindOf p)) sid
+
+abbrev pub turnReply : ℕ → lane.Call → Out → List Packet → Reply
+turnReply sid (put p R) o l = outReply sid o
+turnReply sid (get R) o l = outReply sid o
+turnReply sid (shut R) o l = outReply sid o
+turnReply sid deliver o l = headReply sid l
+
+abbrev pub actReply : World → Act → Reply
+actReply W (dial sid) = emitting 0 sid headerLength (synFor sid)
+actReply W greet = takingReply headerLength (flagsValue Syn) (W .sid (W .known))
+actReply W (turn k n c) = turnReply (W .sid n) c (moved k c (W .lanes n) .out) (toward k (W .lanes n))
+
+-- ---- what a step comes to
+
+-- no storage changes its length
+abbrev pub Lengths : Scene → Scene → Type 0
+Lengths x y = (k : Side) → length (y .world k .storage) ≡ length (x .world k .storage)
+
+pub record Acted (slots place : ℕ) (x : Scene) (W : World) (s : Step) (a : Act) : Type 0 where
+  pub mirror : Mirror slots place (entry (sized place) x s .after) (act a W)
+  pub whose : entry (sized place) x s .whose ≡ some (owner W a)
+  pub reply : entry (sized place) x s .reply ≡ actReply W a
+  pub lengths : Lengths x (entry (sized place) x s .after)
+
+pub record Rested (slots place : ℕ) (x : Scene) (W : World) (s : Step) : Type 0 where
+  pub mirror : Mirror slots place (entry (sized place) x s .after) W
+  pub whose : entry (sized place) x s .whose ≡ none
+  pub below : entry (sized place) x s .reply .number < 20
+  pub refused : entry (sized place) x s .reply .number ≢ 0
+  pub up : entry (sized place) x s .reply .number ≢ 1
+  pub made : entry (sized place) x s .reply .number ≢ 12
+  pub lengths : Lengths x (entry (sized place) x s .after)

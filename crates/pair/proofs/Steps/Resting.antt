@@ -1,0 +1,106 @@
+-- A step that is refused and is no session's changes nothing: the scene after it stands for the same world of lanes.
+use Prim.Native.Nat.{ℕ, _<_}
+use native.Mathlib.Omega.{arith}
+use mathlib.Core.Path.{_≡_, refl, ap, _∙_}
+use mathlib.Core.List.{List, [], append-nil}
+use mathlib.Core.Option.{Option, none}
+use lib.ListN.{length}
+use Rattle.first.proofs.First.{done-not}
+use Rattle.lane.specs.Side.{Side, other}
+use Rattle.lane.proofs.World.{World}
+use Rattle.pair.specs.World.{Party, with, sized}
+use Rattle.pair.specs.Step.{Call, Open, Send, Read, Close, Take, Step, Reply, Done, did, acted, reached}
+use Rattle.pair.specs.Whose.{Marked, left, owners, counted, noted}
+use Rattle.pair.specs.History.{Scene, whoseIn}
+use Rattle.pair.proofs.Mirror.Scene.{Mirror}
+use Rattle.pair.proofs.Mirror.Sides.{sides, with-own, with-other}
+use Rattle.pair.proofs.Steps.Performs.{Rested}
+
+-- a scene with the same sides
+mirror-same : {slots place : ℕ} {x y : Scene} {W : World} → ((k : Side) → y .world k ≡ x .world k) → ((k : Side) → y .book .notes k ≡ x .book .notes k)
+    → y .book .opened ≡ x .book .opened → Mirror slots place x W → Mirror slots place y W
+mirror-same w b o m = record { inv = m .inv; at = λ k. rw (w k, b k) (m .at k); opened = o ∙ m .opened; low = m .low }
+
+-- ---- the book after a refusal
+
+left-refused : (c : Call) (r : Reply) (ms : List Marked) → 0 < r .number → left c r ms ≡ ms
+left-refused (Open room) r ms h = refl
+left-refused (Send sid payload room) r ms h = refl
+left-refused (Read sid room ack lent) r ms h = refl
+left-refused (Close sid room) r ms h = refl
+left-refused (Take given lent) r ms h = done-not (r .number) _ _ h
+
+owners-refused : (c : Call) (p : Party) (who : Option ℕ) (r : Reply) (owner : ℕ → ℕ) → 0 < r .number → owners c p who r owner ≡ owner
+owners-refused (Open room) p who r owner h = done-not (r .number) _ _ h
+owners-refused (Send sid payload room) p who r owner h = refl
+owners-refused (Read sid room ack lent) p who r owner h = refl
+owners-refused (Close sid room) p who r owner h = refl
+owners-refused (Take given lent) p who r owner h = done-not (r .number) _ _ h
+
+counted-refused : (c : Call) (r : Reply) (n : ℕ) → 0 < r .number → counted c r n ≡ n
+counted-refused (Open room) r n h = done-not (r .number) _ _ h
+counted-refused (Send sid payload room) r n h = refl
+counted-refused (Read sid room ack lent) r n h = refl
+counted-refused (Close sid room) r n h = refl
+counted-refused (Take given lent) r n h = refl
+
+-- ---- the step
+
+-- what a refusal shows: the number, and take's count of the bytes missing
+abbrev pub refusal : ℕ → ℕ → Reply
+refusal n missing = record {
+  number = n;
+  sid = 0;
+  used = 0;
+  kind = 0;
+  missing = missing;
+  payloadLength = 0;
+  payload = [];
+  packetLength = 0;
+  packet = [];
+}
+
+-- its side as it was
+abbrev pub refused : ℕ → ℕ → Party → Done
+refused n missing p = record { reply = refusal n missing; end = p .end; storage = p .storage }
+
+module _ {slots place : ℕ} {x : Scene} {W : World} (m : Mirror slots place x W) (s : Step) (n missing : ℕ) (low : 1 < n) (top : n < 12)
+    (is : did (sized place) (s .call) (x .world (s .side)) ≡ refused n missing (x .world (s .side))) (who : whoseIn (sized place) x s ≡ none) where
+  -- the scene after a step that does d
+  abbrev scene : Done → Scene
+  scene d = record {
+    world = with (s .side) (acted d (x .world (s .side))) (with (other (s .side)) (reached (d .reply .packet) (x .world (other (s .side)))) (x .world));
+    book = noted s (x .world) (whoseIn (sized place) x s) (d .reply) (x .book);
+  }
+
+  abbrev d : Done
+  d = refused n missing (x .world (s .side))
+
+  same-world : (k : Side) → scene d .world k ≡ x .world k
+  same-world =
+      sides (λ k. scene d .world k ≡ x .world k) (s .side) (with-own (s .side) _ _ (x .world))
+      (with-other (s .side) _ _ (x .world) ∙ rw append-nil)
+
+  same-notes : (k : Side) → scene d .book .notes k ≡ x .book .notes k
+  same-notes =
+      sides (λ k. scene d .book .notes k ≡ x .book .notes k) (s .side)
+      (with-own (s .side) _ _ (x .book .notes) ∙ rw (
+        left-refused (s .call) (d .reply) (x .book .notes (s .side) .coming) (omega arith),
+        owners-refused (s .call) (x .world (s .side)) (whoseIn (sized place) x s) (d .reply) (x .book .notes (s .side) .owner) (omega arith),
+      ))
+      (with-other (s .side) _ _ (x .book .notes) ∙ rw append-nil)
+
+  pub rests : Rested slots place x W s
+  rests = record {
+    mirror = mirror-same (λ k. ap (λ (d : Done). scene d .world k) is ∙ same-world k) (λ k. ap (λ (d : Done). scene d .book .notes k) is ∙ same-notes k)
+        (ap (λ (d : Done). scene d .book .opened) is ∙ counted-refused (s .call) (d .reply) (x .book .opened) (omega arith)) m;
+    whose = who;
+    below = omega (arith, number);
+    refused = λ q. omega (arith, number);
+    up = λ q. omega (arith, number);
+    made = λ q. omega (arith, number);
+    lengths = λ k. ap (λ (p : Party). length (p .storage)) (ap (λ (d : Done). scene d .world k) is ∙ same-world k);
+  }
+    where
+      number : did (sized place) (s .call) (x .world (s .side)) .reply .number ≡ n
+      number = ap (λ (d : Done). d .reply .number) is

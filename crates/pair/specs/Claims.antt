@@ -1,0 +1,178 @@
+-- What the theorems of demand 3 speak of: a session's own entries in a history, what was accepted and received, the session alone.
+use Prim.Native.Nat.{ℕ, suc, _*_, _<_, _≤_}
+use mathlib.Core.Path.{_≡_}
+use mathlib.Core.Logic.{_≢_, _⊎_}
+use mathlib.Core.Bool.{Bool, true, false, not}
+use mathlib.Core.List.{List, [], _∷_, _++_}
+use mathlib.Core.Option.{Option, none, some}
+use lib.ListN.{length, take, drop, getD}
+use lib.Dec.{eqb}
+use Rattle.first.specs.Cases.{if, done}
+use Rattle.wire.specs.declared.kind.Kind.the-variants.{Syn, Fin}
+use Rattle.wire.specs.Packet.{flagsValue}
+use Rattle.session.specs.declared.record.Session.{Session}
+use Rattle.session.specs.Record.{free, inUse}
+use Rattle.lane.specs.Side.{Side, client, server}
+use Rattle.pair.specs.Step.{Call, Open, Send, Read, Close, Take, Step, Reply}
+use Rattle.pair.specs.History.{Scene, Entry}
+
+-- ---- every entry, some entry
+
+abbrev pub Every : (Entry → Type 0) → List Entry → Type 0
+Every P [] = Unit
+Every P (e ∷ h) = P e × Every P h
+
+abbrev pub Some : (Entry → Type 0) → List Entry → Type 0
+Some P [] = ⊥
+Some P (e ∷ h) = P e ⊎ Some P h
+
+-- ---- a session's own entries
+
+abbrev pub isOf : ℕ → Option ℕ → Bool
+isOf n none = false
+isOf n (some m) = eqb m n
+
+unfoldable pub own : ℕ → List Entry → List Entry
+own n [] = []
+own n (e ∷ h) = if (isOf n (e .whose)) (e ∷ own n h) (own n h)
+
+-- ---- payloads: a list of them, not of their bytes; empty ones count
+
+abbrev pub only : Side → Side → List (List ℕ) → List (List ℕ)
+only client client ps = ps
+only client server ps = []
+only server client ps = []
+only server server ps = ps
+
+abbrev pub sent : Call → Reply → List (List ℕ)
+sent (Open room) r = []
+sent (Send sid payload room) r = done (r .number) (payload ∷ []) []
+sent (Read sid room ack lent) r = []
+sent (Close sid room) r = []
+sent (Take given lent) r = []
+
+abbrev pub got : Call → Reply → List (List ℕ)
+got (Open room) r = []
+got (Send sid payload room) r = []
+got (Read sid room ack lent) r = done (r .number) (r .payload ∷ []) []
+got (Close sid room) r = []
+got (Take given lent) r = []
+
+-- what the sends at a side were accepted with, in order
+unfoldable pub accepted : Side → List Entry → List (List ℕ)
+accepted k [] = []
+accepted k (e ∷ h) = only k (e .step .side) (sent (e .step .call) (e .reply)) ++ accepted k h
+
+-- what the reads at a side handed over, in order
+unfoldable pub received : Side → List Entry → List (List ℕ)
+received k [] = []
+received k (e ∷ h) = only k (e .step .side) (got (e .step .call) (e .reply)) ++ received k h
+
+-- a is a first part of b
+pub record FirstPart (a b : List (List ℕ)) : Type 0 where
+  pub more : List (List ℕ)
+  pub whole : b ≡ a ++ more
+
+-- ---- kinds of entries
+
+abbrev pub IsRead : Call → Type 0
+IsRead (Open room) = ⊥
+IsRead (Send sid payload room) = ⊥
+IsRead (Read sid room ack lent) = Unit
+IsRead (Close sid room) = ⊥
+IsRead (Take given lent) = ⊥
+
+abbrev pub IsTake : Call → Type 0
+IsTake (Open room) = ⊥
+IsTake (Send sid payload room) = ⊥
+IsTake (Read sid room ack lent) = ⊥
+IsTake (Close sid room) = ⊥
+IsTake (Take given lent) = Unit
+
+abbrev pub IsOpen : Call → Type 0
+IsOpen (Open room) = Unit
+IsOpen (Send sid payload room) = ⊥
+IsOpen (Read sid room ack lent) = ⊥
+IsOpen (Close sid room) = ⊥
+IsOpen (Take given lent) = ⊥
+
+-- a read at that side answered 11
+pub record Told (k : Side) (e : Entry) : Type 0 where
+  pub side : e .step .side ≡ k
+  pub read : IsRead (e .step .call)
+  pub number : e .reply .number ≡ 11
+
+-- that side took a FIN of session n
+pub record FinTaken (k : Side) (n : ℕ) (e : Entry) : Type 0 where
+  pub side : e .step .side ≡ k
+  pub take : IsTake (e .step .call)
+  pub number : e .reply .number ≡ 0
+  pub kind : e .reply .kind ≡ flagsValue Fin
+  pub whose : e .whose ≡ some n
+
+-- session n was opened, and the answer gave it that SID
+pub record OpenedAs (n x : ℕ) (e : Entry) : Type 0 where
+  pub call : IsOpen (e .step .call)
+  pub number : e .reply .number ≡ 0
+  pub whose : e .whose ≡ some n
+  pub sid : e .reply .sid ≡ x
+
+-- ---- slots of a scene
+
+abbrev pub slotAt : Scene → Side → ℕ → Session
+slotAt x k i = getD (x .world k .end .slots) i free
+
+-- slot i at that side holds session n
+pub record Holds (x : Scene) (k : Side) (i n : ℕ) : Type 0 where
+  pub slot : i < length (x .world k .end .slots)
+  pub used : inUse (slotAt x k i .state) ≡ true
+  pub owner : x .book .notes k .owner i ≡ n
+
+-- ---- what a step may do
+
+-- neither a fault, nor 1, nor 12
+pub record Fine (e : Entry) : Type 0 where
+  pub below : e .reply .number < 20
+  pub up : e .reply .number ≢ 1
+  pub made : e .reply .number ≢ 12
+
+-- a packet taken with 0 is filed with the session that sent it: in one slot, which a SYN finds free, and in that slot's four places
+pub record OwnSlot (place : ℕ) (e : Entry) : Type 0 where
+  pub slot : ℕ
+  pub session : e .whose ≡ some (e .after .book .notes (e .step .side) .owner slot)
+  pub found : inUse (slotAt (e .before) (e .step .side) slot .state) ≡ not (eqb (e .reply .kind) (flagsValue Syn))
+  pub others : (j : ℕ) → j ≢ slot → slotAt (e .after) (e .step .side) j ≡ slotAt (e .before) (e .step .side) j
+  pub bytes : (o : ℕ) → (o < 4 * place * slot) ⊎ (4 * place * suc slot ≤ o)
+      → getD (e .after .world (e .step .side) .storage) o 0 ≡ getD (e .before .world (e .step .side) .storage) o 0
+
+-- ---- the session alone: "the same steps come in the same order with the same payloads and the same lengths of buffers and storage, each
+-- take given just its packet; slot and number may differ"
+
+abbrev pub aloneCall : Call → Reply → Call
+aloneCall (Open room) r = Open room
+aloneCall (Send sid payload room) r = Send 0 payload room
+aloneCall (Read sid room ack lent) r = Read 0 room ack lent
+aloneCall (Close sid room) r = Close 0 room
+aloneCall (Take given lent) r = Take (r .used) lent
+
+abbrev pub aloneStep : Entry → Step
+aloneStep e = record { side = e .step .side; call = aloneCall (e .step .call) (e .reply) }
+
+-- a packet with its SID, bytes 2 and 3, set to 0
+abbrev pub numberless : List ℕ → List ℕ
+numberless [] = []
+numberless (b ∷ bs) = take 2 (b ∷ bs) ++ (0 ∷ 0 ∷ drop 4 (b ∷ bs))
+
+-- a reply but for the SID, in the answer and in the packet
+abbrev pub plainReply : Entry → Reply
+plainReply e = record {
+  number = e .reply .number;
+  sid = 0;
+  used = e .reply .used;
+  kind = e .reply .kind;
+  missing = e .reply .missing;
+  payloadLength = e .reply .payloadLength;
+  payload = e .reply .payload;
+  packetLength = e .reply .packetLength;
+  packet = numberless (e .reply .packet);
+}

@@ -1,0 +1,148 @@
+-- Short runs of the pair, each with what it should show, worked out from document 01. The checker evaluates them (proofs/Runs.antt).
+-- They have small places and few slots, so that they are quick to evaluate; the theorems hold of every size.
+use Prim.Native.Nat.{ℕ}
+use mathlib.Core.Path.{_≡_}
+use mathlib.Core.Bool.{true}
+use mathlib.Core.List.{List, [], _∷_, _++_, map}
+use mathlib.Core.Option.{Option, none, some}
+use lib.ListN.{replicate}
+use Rattle.session.specs.declared.record.Session.{Session}
+use Rattle.session.specs.Record.{free, statedOf}
+use Rattle.table.specs.declared.end.Role.{Role}
+use Rattle.table.specs.declared.end.Role.the-variants.{Client, Server}
+use Rattle.lane.specs.Side.{Side, client, server}
+use Rattle.pair.specs.World.{Party, sized}
+use Rattle.pair.specs.Step.{Call, Open, Send, Read, Close, Take, Step}
+use Rattle.pair.specs.History.{Scene, Entry, dawn, history}
+use Rattle.pair.specs.Claims.{own, received}
+
+-- a step, the number that it should get and the session that it should belong to
+pub record Line : Type 0 where
+  pub step : Step
+  pub number : ℕ
+  pub whose : Option ℕ
+
+abbrev pub steps : List Line → List Step
+steps lines = map (λ (l : Line). l .step) lines
+
+abbrev pub numbers : List Line → List ℕ
+numbers lines = map (λ (l : Line). l .number) lines
+
+abbrev pub sessions : List Line → List (Option ℕ)
+sessions lines = map (λ (l : Line). l .whose) lines
+
+abbrev pub numbersIn : List Entry → List ℕ
+numbersIn h = map (λ (e : Entry). e .reply .number) h
+
+abbrev pub sessionsIn : List Entry → List (Option ℕ)
+sessionsIn h = map (λ (e : Entry). e .whose) h
+
+abbrev pub is : Side → Call → ℕ → Option ℕ → Line
+is k c n who = record { step = record { side = k; call = c }; number = n; whose = who }
+
+-- two slots with places of four bytes, and storages of 32
+abbrev pub two : Scene
+two = dawn 2 (λ k. replicate 32 0)
+
+-- a row sent and read; the writer closes; the reader is told 8 before the FIN is taken, and 11 after
+abbrev pub row : List Line
+row =
+    is client (Open 16) 0 (some 0)
+    ∷ is client (Send 0 (7 ∷ 8 ∷ []) 18) 0 (some 0)
+    ∷ is server (Take 100 32) 0 (some 0)
+    ∷ is server (Take 17 32) 10 none
+    ∷ is server (Take 18 32) 0 (some 0)
+    ∷ is server (Read 0 2 16 32) 0 (some 0)
+    ∷ is client (Close 0 16) 0 (some 0)
+    ∷ is server (Read 0 2 16 32) 8 (some 0)
+    ∷ is server (Take 16 32) 0 (some 0)
+    ∷ is server (Read 0 2 16 32) 11 (some 0)
+    ∷ []
+
+-- a SID used again while the server still holds the old session under it: the FIN and the SYN both carry SID 0
+abbrev pub again : List Line
+again =
+    is client (Open 16) 0 (some 0)
+    ∷ is server (Take 16 32) 0 (some 0)
+    ∷ is server (Close 0 16) 0 (some 0)
+    ∷ is client (Take 16 32) 0 (some 0)
+    ∷ is client (Close 0 16) 0 (some 0)
+    ∷ is client (Open 16) 0 (some 1)
+    ∷ is client (Send 0 (9 ∷ []) 17) 0 (some 1)
+    ∷ is server (Read 0 4 16 32) 5 (some 0)
+    ∷ is server (Take 100 32) 0 (some 0)
+    ∷ is server (Take 100 32) 0 (some 1)
+    ∷ is server (Take 100 32) 0 (some 1)
+    ∷ is server (Read 0 4 16 32) 0 (some 1)
+    ∷ []
+
+-- both sides close at once: each takes the other's FIN in FIN SENT, and both slots are free
+abbrev pub crossing : List Line
+crossing =
+    is client (Open 16) 0 (some 0)
+    ∷ is server (Take 16 32) 0 (some 0)
+    ∷ is client (Close 0 16) 0 (some 0)
+    ∷ is server (Close 0 16) 0 (some 0)
+    ∷ is client (Take 16 32) 0 (some 0)
+    ∷ is server (Take 16 32) 0 (some 0)
+    ∷ is client (Read 0 4 16 32) 4 none
+    ∷ is server (Read 0 4 16 32) 4 none
+    ∷ []
+
+-- sixteen sessions, and a seventeenth that is refused; sixteen slots with places of one byte
+abbrev pub sixteen : Scene
+sixteen = dawn 16 (λ k. replicate 64 0)
+
+abbrev pub many : List Step
+many = replicate 17 (record { side = client; call = Open 16 }) ++ replicate 17 (record { side = server; call = Take 16 64 })
+
+-- A session that has sent 4,294,967,294 packets. This is no run from a fresh pair: it starts from a world that was written down here,
+-- and shows the wrap computed. That runs from a fresh pair get past it is what the theorems say, since they bound no run's length.
+abbrev pub late : Scene
+late = record {
+  world = worldAt;
+  book = record { opened = 1; notes = λ k. record { coming = []; owner = λ i. 0 } };
+}
+  where
+    at : Role → Session → Party
+    at role x = record { end = record { role = role; up = true; slots = x ∷ free ∷ [] }; storage = replicate 32 0; coming = [] }
+
+    worldAt : Side → Party
+    worldAt client = at Client (statedOf 0 0xfffffffe 2 0 4)
+    worldAt server = at Server (statedOf 0 0 4 0xfffffffe 2)
+
+abbrev pub wrapping : List Line
+wrapping =
+    is client (Send 0 (1 ∷ []) 17) 0 (some 0)
+    ∷ is client (Send 0 (2 ∷ []) 17) 0 (some 0)
+    ∷ is client (Send 0 (3 ∷ []) 17) 0 (some 0)
+    ∷ is server (Take 17 32) 0 (some 0)
+    ∷ is server (Take 17 32) 0 (some 0)
+    ∷ is server (Take 17 32) 0 (some 0)
+    ∷ is server (Read 0 1 16 32) 0 (some 0)
+    ∷ is server (Read 0 1 16 32) 0 (some 0)
+    ∷ is server (Read 0 1 16 32) 0 (some 0)
+    ∷ is client (Take 16 32) 0 (some 0)
+    ∷ []
+
+-- ---- what they show
+
+-- each step has its number and belongs to its session
+abbrev pub Goes : Scene → List Line → Type 0
+Goes x lines = (numbersIn (history (sized 4) x (steps lines)) ≡ numbers lines) × (sessionsIn (history (sized 4) x (steps lines)) ≡ sessions lines)
+
+-- what the server received of session n
+abbrev pub Arrives : Scene → List Line → ℕ → List (List ℕ) → Type 0
+Arrives x lines n payloads = received server (own n (history (sized 4) x (steps lines))) ≡ payloads
+
+abbrev pub Shown : Type 0
+Shown =
+    Goes two row
+    × Arrives two row 0 ((7 ∷ 8 ∷ []) ∷ [])
+    × Goes two again
+    × Arrives two again 0 []
+    × Arrives two again 1 ((9 ∷ []) ∷ [])
+    × Goes two crossing
+    × Goes late wrapping
+    × Arrives late wrapping 0 ((1 ∷ []) ∷ (2 ∷ []) ∷ (3 ∷ []) ∷ [])
+    × (numbersIn (history (sized 1) sixteen many) ≡ replicate 16 0 ++ (3 ∷ replicate 16 0 ++ (10 ∷ [])))

@@ -1,0 +1,50 @@
+-- The pair in demand 3 (document 01): one client and one server, each started once at the beginning, joined by two faithful channels.
+-- The number of slots and the size of a place are arguments; the base has 16 and 512.
+use Prim.Native.Nat.{ℕ, _+_, _^_, _≤_, _<_}
+use mathlib.Core.Bool.{true}
+use mathlib.Core.List.{List, []}
+use Rattle.wire.specs.Packet.{headerLength}
+use Rattle.session.specs.Record.{window}
+use Rattle.table.specs.declared.end.Role.{Role}
+use Rattle.table.specs.declared.end.Role.the-variants.{Client, Server}
+use Rattle.table.specs.declared.end.End.{End}
+use Rattle.table.specs.Slots.{allFree}
+use Rattle.smp.specs.Calling.{Limits}
+use Rattle.lane.specs.Side.{Side, client, server}
+
+abbrev pub roleOf : Side → Role
+roleOf client = Client
+roleOf server = Server
+
+-- one side: its end, the storage that it lends, and the bytes on their way to it
+pub record Party : Type 0 where
+  pub end : End
+  pub storage : List ℕ
+  pub coming : List ℕ
+
+abbrev pub World : Type 0
+World = Side → Party
+
+-- one side replaced
+abbrev pub with : {A : Type 0} → Side → A → (Side → A) → Side → A
+with client a w client = a
+with client a w server = w server
+with server a w client = w client
+with server a w server = a
+
+-- SIDs have two bytes, and LENGTH has four
+pub record Sizes (slots place : ℕ) : Type 0 where
+  pub few : slots ≤ 2 ^ 16
+  pub fits : headerLength + place < 2 ^ 32
+
+-- our window, and places of that size
+abbrev pub sized : ℕ → Limits
+sized place = record { window = window; place = place }
+
+-- an end of so many slots as start leaves it
+abbrev pub started : ℕ → Role → End
+started slots role = record { role = role; up = true; slots = allFree slots }
+
+-- both ends fresh, storages of any length and content, both channels empty
+abbrev pub fresh : ℕ → (Side → List ℕ) → World
+fresh slots storage k = record { end = started slots (roleOf k); storage = storage k; coming = [] }
