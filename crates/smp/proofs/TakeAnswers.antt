@@ -7,7 +7,7 @@ use mathlib.Core.Bool.{Bool, true, false, not}
 use mathlib.Core.List.{List, _∷_}
 use lib.ListN.{length}
 use lib.Dec.{eqb, ltb}
-use borrow.Author.Tests.{ltb-false, le-ltb, eqb-true, eqb-false, not-false}
+use borrow.Author.Tests.{ltb-false, le-ltb, lt-ltb, ne-eqb, eqb-true, eqb-false, not-false}
 use Rattle.first.specs.Cases.{Case, _⇒_, if, first, done}
 use Rattle.first.proofs.First.{done-0, done-not, numbered, first-append}
 use Rattle.wire.specs.declared.header.Header.{Header}
@@ -27,15 +27,17 @@ use Rattle.table.specs.declared.end.End.{End}
 use Rattle.table.specs.declared.scan.Look.{Look}
 use Rattle.table.specs.Slots.{holds, sessionOf, slotOf, lowestFree, full}
 use Rattle.table.specs.Storage.{storageLength}
-use Rattle.table.specs.End.{slotCount, putOf, seenAll, seenNothing, lookOf}
+use Rattle.table.specs.End.{slotCount, downOf, putOf, seenAll, seenNothing, lookOf}
 use Rattle.table.proofs.Slots.{held, within, changed-end}
-use Rattle.table.proofs.Lowest.{full-lowest}
+use Rattle.table.proofs.Lowest.{full-lowest, lowest-within}
 use Rattle.smp.specs.declared.take.Act.{Act}
 use Rattle.smp.specs.declared.take.Act.the-variants.{Stop, Begin, Do}
 use Rattle.smp.specs.declared.take.Taken.{Taken}
+use Rattle.smp.specs.declared.take.Values.{Values}
 use Rattle.smp.proofs.Looked as looked
 use Rattle.smp.specs.Calling.{base, good, shortStorage}
 use Rattle.smp.specs.Take.{
+  isClient,
   kindCases,
   packetCases,
   takeCases,
@@ -52,7 +54,7 @@ use Rattle.smp.specs.Take.{
 }
 use Rattle.smp.proofs.SynKeeps.{syn-keeps}
 use Rattle.smp.proofs.TakeActs.{after, joined}
-use Rattle.smp.specs.TakeParts.{noHeader, frontOf, missingOf, stopOf, kindAct, acted, actOf}
+use Rattle.smp.specs.TakeParts.{noHeader, frontOf, missingOf, stopOf, kindAct, acted, actOf, valuesStopped, valuesOf}
 
 -- ---- where a number is 0, none of its cases applies
 
@@ -109,6 +111,13 @@ is-held Ack role held none x h f p = not-false held (first-clear (not held) 23 _
 is-held Fin role held none x h f p = not-false held (first-clear (not held) 23 _ (omega arith) p .0)
 is-held Data role held none x h f p = not-false held (first-clear (not held) 23 _ (omega arith) p .0)
 
+-- and for SYN there is a free slot
+has-room : (role : Role) (held none : Bool) (x : Session) (h : Header) → first (kindCases base (One Syn) role held none x h) ≡ 0 → none ≡ false
+has-room role held none x h p =
+    let a = first-clear (isClient role) 24 _ (omega arith) p in
+    let b = first-clear held 25 _ (omega arith) (a .1) in
+    first-clear none 26 _ (omega arith) (b .1) .0
+
 -- ---- what is done tells the kind
 
 not-stopped : (k : Kind) (x : Session) (n : ℕ) → kindAct (One k) x ≡ Stop n → ⊥
@@ -140,6 +149,17 @@ other-end Data h e f = changed-end (h .sid) (takenOn Data h) e
 missing-step : (b : Bool) (h : Header) (n : ℕ) → if b (headerLength - n) ((if b noHeader h) .length - n) ≡ if b (headerLength - n) (h .length - n)
 missing-step true h n = refl
 missing-step false h n = refl
+
+-- ---- the values and the record make the answer
+
+abbrev pub withEnd : Values → End → Taken
+withEnd v d = record { number = v .number; used = v .used; kind = v .kind; sid = v .sid; missing = v .missing; end = d }
+
+refusal : (n m : ℕ) (e : End) → n < 20 → withEnd (valuesStopped n m) e ≡ stopOf n m e
+refusal n m e p = rw (lt-ltb n 20 p)
+
+fault : (n m : ℕ) (e : End) → 20 ≤ n → withEnd (valuesStopped n m) (downOf e) ≡ stopOf n m e
+fault n m e p = rw (le-ltb n 20 p, ne-eqb n 10 (λ q. omega arith))
 
 -- ---- take stops, or a packet of some kind meets no refusal
 
@@ -228,7 +248,7 @@ module _ (e : End) (bytes lent : List ℕ) (long : 16 ≡ length (e .slots)) {h 
           let ph : h ≡ readHeader bytes = front ∙ rw (le-ltb (length bytes) headerLength (c .2)) in
           by-rest z ph (sees true (c .0)) (ltb-false (length lent) (storageLength payloadLimit slotCount) (short-is ∙ c .1)) (eqb (rest h) 0) refl
 
-  -- ---- the three arms
+  -- ---- the arms: what the code found of the values and of the record
 
   abbrev answer : Header → Taken
   answer g = takeDone g (takenEnd (flagsOf (g .flags)) g e)
@@ -236,13 +256,13 @@ module _ (e : End) (bytes lent : List ℕ) (long : 16 ≡ length (e .slots)) {h 
   missing-is : missingOf h (length bytes) ≡ missing bytes
   missing-is = ap (λ (g : Header). missingOf g (length bytes)) front ∙ missing-step (ltb (length bytes) headerLength) (readHeader bytes) (length bytes)
 
-  pub take-stops : (n : ℕ) → a ≡ Stop n → {m : ℕ} {r : Taken} → m ≡ missingOf h (length bytes) → r ≡ stopOf n m e → TakePromise e bytes lent r lent
+  take-stops : (n : ℕ) → a ≡ Stop n → {r : Taken} → r ≡ stopOf n (missingOf h (length bytes)) e → TakePromise e bytes lent r lent
   unfolding takeOf takeStorage
-  take-stops n pa {m} {r} pm pr = by outcome
+  take-stops n pa {r} pr = by outcome
     where
       is : (j : ℕ) → takeNumber base e bytes (length lent) ≡ j → 0 < j → n ≡ j → TakePromise e bytes lent r lent
       is j q p s = record {
-        answer = pr ∙ ap (λ (i : ℕ). stopOf n i e) (pm ∙ missing-is) ∙ ap (λ (i : ℕ). stopOf i (missing bytes) e) s
+        answer = pr ∙ ap (λ (i : ℕ). stopOf n i e) missing-is ∙ ap (λ (i : ℕ). stopOf i (missing bytes) e) s
             ∙ sym (ap (λ (i : ℕ). done i (answer (readHeader bytes)) (stopOf i (missing bytes) e)) q ∙ done-not j (answer (readHeader bytes)) (stopOf j (missing bytes) e) p);
         storage = sym (ap (λ (i : ℕ). done i (takenStorage base (flagsOf (readHeader bytes .flags)) e (readHeader bytes) bytes lent) lent) q
             ∙ done-not j (takenStorage base (flagsOf (readHeader bytes .flags)) e (readHeader bytes) bytes lent) lent p);
@@ -251,6 +271,15 @@ module _ (e : End) (bytes lent : List ℕ) (long : 16 ≡ length (e .slots)) {h 
       by : Outcome e bytes (length lent) h l a → TakePromise e bytes lent r lent
       by (stopping j q p b) = is j q p cc
       by (going k z ph pl b d s) = absurd (not-stopped k (sessionOf (h .sid) (e .slots)) n (sym b ∙ pa))
+
+  module _ (n : ℕ) (pa : a ≡ Stop n) {v : Values} {d : End} (pv : v ≡ valuesOf (Stop n) h (length bytes)) where
+    pub take-refuses : n < 20 → d ≡ e → TakePromise e bytes lent (withEnd v d) lent
+    take-refuses p pd =
+        take-stops n pa (ap (λ (w : Values). withEnd w d) pv ∙ ap (withEnd (valuesStopped n (missingOf h (length bytes)))) pd ∙ refusal n (missingOf h (length bytes)) e p)
+
+    pub take-faults : 20 ≤ n → d ≡ downOf e → TakePromise e bytes lent (withEnd v d) lent
+    take-faults p pd =
+        take-stops n pa (ap (λ (w : Values). withEnd w d) pv ∙ ap (withEnd (valuesStopped n (missingOf h (length bytes)))) pd ∙ fault n (missingOf h (length bytes)) e p)
 
   goes : (k : Kind) → takeNumber base e bytes (length lent) ≡ 0 → h ≡ readHeader bytes → flagsOf (h .flags) ≡ One k → {r : Taken} {exit : List ℕ}
       → r ≡ takeDone h (takenEnd (One k) h e) → exit ≡ takenStorage base (One k) e h bytes lent → TakePromise e bytes lent r exit
@@ -263,17 +292,28 @@ module _ (e : End) (bytes lent : List ℕ) (long : 16 ≡ length (e .slots)) {h 
             ∙ sym (done-0 n (takenStorage base (flagsOf (readHeader bytes .flags)) e (readHeader bytes) bytes lent) lent z);
       }
 
-  pub take-begins : a ≡ Begin → {x : Session} {d : End} {r : Taken} → x ≡ freshOf (h .sid) → d ≡ putOf (l .free) x e → r ≡ takeDone h d → TakePromise e bytes lent r lent
-  take-begins pa {x} {d} {r} px pd pr = by outcome
-    where
-      by : Outcome e bytes (length lent) h l a → TakePromise e bytes lent r lent
-      by (stopping j q p b) = let w : _≡_ {A = ℕ} 0 1 = cc in absurd (omega arith)
-      by (going k z ph pl b f s) =
-          let syn : k ≡ Syn = is-syn k (sessionOf (h .sid) (e .slots)) (sym b ∙ pa) in
-          let en : d ≡ putOf (lowestFree (e .slots)) (freshOf (h .sid)) e =
-          pd ∙ ap (λ (y : Session). putOf (l .free) y e) px ∙ ap (λ (v : Look). putOf (v .free) (freshOf (h .sid)) e) pl in
-          goes Syn z ph (f .flags ∙ ap One syn) (pr ∙ ap (takeDone h) en)
-          (sym (syn-keeps base (sessionOf (h .sid) (e .slots) .state) (slotOf (h .sid) (e .slots)) h bytes lent))
+  module _ (pa : a ≡ Begin) where
+    pub take-room : l .free < slotCount
+    take-room = by outcome
+      where
+        by : Outcome e bytes (length lent) h l a → l .free < slotCount
+        by (stopping j q p b) = let w : _≡_ {A = ℕ} 0 1 = cc in absurd (omega arith)
+        by (going k z ph pl b f s) =
+            let r : full (e .slots) ≡ false = has-room (e .role) (holds (h .sid) (e .slots)) (full (e .slots)) (sessionOf (h .sid) (e .slots)) h (ap (λ (i : Kind). first (kindCases base (One i) (e .role) (holds (h .sid) (e .slots)) (full (e .slots)) (sessionOf (h .sid) (e .slots)) h)) (sym (is-syn k (sessionOf (h .sid) (e .slots)) (sym b ∙ pa))) ∙ f .kind) in
+            let i : lowestFree (e .slots) < length (e .slots) = lowest-within (e .slots) r in
+            let j : l .free ≡ lowestFree (e .slots) = ap (λ (v : Look). v .free) pl in
+            omega arith
+
+    pub take-begins : {x : Session} {v : Values} {d : End} → x ≡ freshOf (h .sid) → v ≡ valuesOf Begin h (length bytes) → d ≡ putOf (l .free) x e → TakePromise e bytes lent (withEnd v d) lent
+    take-begins {x} {v} {d} px pv pd = by outcome
+      where
+        by : Outcome e bytes (length lent) h l a → TakePromise e bytes lent (withEnd v d) lent
+        by (stopping j q p b) = let w : _≡_ {A = ℕ} 0 1 = cc in absurd (omega arith)
+        by (going k z ph pl b f s) =
+            let syn : k ≡ Syn = is-syn k (sessionOf (h .sid) (e .slots)) (sym b ∙ pa) in
+            let en : d ≡ putOf (lowestFree (e .slots)) (freshOf (h .sid)) e =
+            pd ∙ ap (λ (y : Session). putOf (l .free) y e) px ∙ ap (λ (v : Look). putOf (v .free) (freshOf (h .sid)) e) pl in
+            goes Syn z ph (f .flags ∙ ap One syn) (ap (λ (w : Values). withEnd w d) pv ∙ ap (takeDone h) en) (sym (syn-keeps base (sessionOf (h .sid) (e .slots) .state) (slotOf (h .sid) (e .slots)) h bytes lent))
 
   module _ (c : Cell) (pa : a ≡ Do c) where
     pub take-fits : (l .slot < slotCount) × (headerLength ≤ h .length) × (h .length ≤ headerLength + payloadLimit) × (h .length ≤ length bytes) × (storageLength payloadLimit slotCount ≤ length lent)
@@ -287,11 +327,11 @@ module _ (e : End) (bytes lent : List ℕ) (long : 16 ≡ length (e .slots)) {h 
             let j : l .slot ≡ slotOf (h .sid) (e .slots) = ap (λ (v : Look). v .slot) pl in
             (omega arith, f .low, f .high, f .there, s)
 
-    pub take-does : {n : ℕ} {y : Session} {d : End} {r : Taken} {exit : List ℕ} → exit ≡ kept base c (l .slot) h bytes lent → n ≡ h .length - headerLength
-        → y ≡ becomes c (h .seqnum) (h .wndw) n (l .session) → d ≡ putOf (l .slot) y e → r ≡ takeDone h d → TakePromise e bytes lent r exit
-    take-does {n} {y} {d} {r} {exit} ps pn py pd pr = by outcome
+    pub take-does : {n : ℕ} {y : Session} {v : Values} {d : End} {exit : List ℕ} → exit ≡ kept base c (l .slot) h bytes lent → n ≡ h .length - headerLength
+        → y ≡ becomes c (h .seqnum) (h .wndw) n (l .session) → v ≡ valuesOf (Do c) h (length bytes) → d ≡ putOf (l .slot) y e → TakePromise e bytes lent (withEnd v d) exit
+    take-does {n} {y} {v} {d} {exit} ps pn py pv pd = by outcome
       where
-        by : Outcome e bytes (length lent) h l a → TakePromise e bytes lent r exit
+        by : Outcome e bytes (length lent) h l a → TakePromise e bytes lent (withEnd v d) exit
         by (stopping j q p b) = let w : _≡_ {A = ℕ} 0 1 = cc in absurd (omega arith)
         by (going k z ph pl b f s) =
             let x = sessionOf (h .sid) (e .slots) in
@@ -301,5 +341,5 @@ module _ (e : End) (bytes lent : List ℕ) (long : 16 ≡ length (e .slots)) {h 
             ∙ ap (λ (t : Cell). becomes t (h .seqnum) (h .wndw) (h .length - headerLength) x) (is .1) in
             let en : d ≡ takenEnd (One k) h e =
             pd ∙ ap (λ (v : Session). putOf (l .slot) v e) ye ∙ ap (λ (v : Look). putOf (v .slot) (takenOn k h x) e) pl ∙ sym (other-end k h e (is .0)) in
-            goes k z ph (f .flags) (pr ∙ ap (takeDone h) en)
+            goes k z ph (f .flags) (ap (λ (w : Values). withEnd w d) pv ∙ ap (takeDone h) en)
             (ps ∙ ap (λ (v : Look). kept base c (v .slot) h bytes lent) pl ∙ ap (λ (t : Cell). kept base t (slotOf (h .sid) (e .slots)) h bytes lent) (is .1))

@@ -9,8 +9,8 @@ ghost use Rattle.session.specs.Record.{payloadLimit, inUse};
 ghost use Rattle.table.specs.End.{slotCount};
 ghost use Rattle.table.specs.Storage.{storageLength};
 ghost use Rattle.smp.specs.Calling.{base};
-ghost use Rattle.smp.specs.Take.{isClient, synCases, otherCases, takeCases, takeDone, takeRefused, takeFault, kept, TakePromise};
-ghost use Rattle.smp.specs.TakeParts.{frontOf, missingOf, stopOf, kindActOf, packetActOf, actOf};
+ghost use Rattle.smp.specs.Take.{isClient, synCases, otherCases, takeCases, kept, TakePromise};
+ghost use Rattle.smp.specs.TakeParts.{valuesDone, valuesStopped, frontOf, missingOf, kindActOf, packetActOf, actOf, valuesOf};
 use first::both;
 use first::number;
 use session::record::Session;
@@ -41,55 +41,38 @@ enum Act {
     Do(Cell),
 }
 
-impl Taken {
-    fn done(h: Header, e: End) -> Taken
-        ensures { λ r. ⌜ r ≡ takeDone h e ⌝ }
+// What an answer gives beside the record.
+struct Values {
+    number: u8,
+    used: usize,
+    kind: u8,
+    sid: u16,
+    missing: usize,
+}
+
+impl Values {
+    fn done(h: Header) -> Values
+        ensures { λ r. ⌜ r ≡ valuesDone h ⌝ }
     {
-        Taken {
+        Values {
             number: number::DONE,
             used: h.length as usize,
             kind: h.flags,
             sid: h.sid,
             missing: 0,
-            end: e,
         }
     }
 
-    fn refused(n: u8, more: usize, e: End) -> Taken
-        ensures { λ r. ⌜ r ≡ takeRefused n more e ⌝ }
+    fn stopped(n: u8, more: usize) -> Values
+        ensures { λ r. ⌜ r ≡ valuesStopped n more ⌝ }
     {
         let m = if n == number::MORE_BYTES { more } else { 0 };
-        Taken {
+        Values {
             number: n,
             used: 0,
             kind: 0,
             sid: 0,
             missing: m,
-            end: e,
-        }
-    }
-
-    fn fault(n: u8, e: End) -> Taken
-        ensures { λ r. ⌜ r ≡ takeFault n e ⌝ }
-    {
-        Taken {
-            number: n,
-            used: 0,
-            kind: 0,
-            sid: 0,
-            missing: 0,
-            end: e.down(),
-        }
-    }
-
-    // Below 20 the record as lent, from 20 on the end down.
-    fn stopped(n: u8, more: usize, e: End) -> Taken
-        ensures { λ r. ⌜ r ≡ stopOf n more e ⌝ }
-    {
-        if n < number::SMID {
-            Taken::refused(n, more, e)
-        } else {
-            Taken::fault(n, e)
         }
     }
 }
@@ -251,6 +234,17 @@ fn payload_length(h: Header) -> u16
     (h.length - 16) as u16
 }
 
+// What the answer gives beside the record.
+fn values_of(a: Act, h: Header, given: usize) -> Values
+    ensures { λ r. ⌜ r ≡ valuesOf a h given ⌝ }
+{
+    match a {
+        Act::Stop(n) => Values::stopped(n, missing(h, given)),
+        Act::Begin => Values::done(h),
+        Act::Do(_) => Values::done(h),
+    }
+}
+
 // The payload to its place, where the cell says so.
 fn keep(storage: &mut [u8], bytes: &[u8], c: Cell, slot: usize, h: Header)
     requires { ⌜ (slot < slotCount) × (headerLength ≤ h .length) × (h .length ≤ headerLength + payloadLimit) × (h .length ≤ length (now bytes)) × (storageLength payloadLimit slotCount ≤ length (now storage)) ⌝ }
@@ -277,14 +271,31 @@ pub fn take(e: End, bytes: &[u8], storage: &mut [u8]) -> Taken
         h,
         bytes.len(),
     );
+    let mut d = e;
     match a {
-        Act::Stop(n) => Taken::stopped(n, missing(h, bytes.len()), e),
-        Act::Begin => Taken::done(h, e.put(l.free, Session::fresh(h.sid))),
+        Act::Stop(n) => {
+            if number::SMID <= n {
+                d = e.down();
+            }
+        }
+        Act::Begin => {
+            let i = l.free;
+            d.slots[i] = Session::fresh(h.sid);
+        }
         Act::Do(c) => {
             let x = l.session;
             keep(storage, bytes, c, l.slot, h);
-            let y = x.becomes(c, h.seqnum, h.wndw, payload_length(h));
-            Taken::done(h, e.put(l.slot, y))
+            let i = l.slot;
+            d.slots[i] = x.becomes(c, h.seqnum, h.wndw, payload_length(h));
         }
+    }
+    let v = values_of(a, h, bytes.len());
+    Taken {
+        number: v.number,
+        used: v.used,
+        kind: v.kind,
+        sid: v.sid,
+        missing: v.missing,
+        end: d,
     }
 }

@@ -1,0 +1,224 @@
+// compare STEPS: the proved calls beside the C, on random streams. Each step is one call on the record that the step before left, with both given the
+// same; numbers, values, the record and every lent byte must be the same after it. A stream begins with a fresh end or with any record at all.
+// It fails if the two differ, if some call never gave one of its numbers, or if a cell of take's table was never reached.
+#include "bench.h"
+#include <stdio.h>
+#include <stdlib.h>
+#include <string.h>
+
+static uint64_t seed = 88172645463325252ull;
+
+// Below n.
+static uint32_t any(uint32_t n) {
+    seed ^= seed << 13;
+    seed ^= seed >> 7;
+    seed ^= seed << 17;
+    return (uint32_t)(seed >> 20) % n;
+}
+
+static int once_in(uint32_t n) {
+    return any(n) == 0;
+}
+
+// ---- a record
+
+static uint32_t record[WORDS];
+
+static uint32_t *slot(int i) {
+    return record + 2 + SLOT_WORDS * i;
+}
+
+static uint32_t counter(void) {
+    switch (any(3)) {
+    case 0: return any(8);
+    case 1: return 0u - 1 - any(8);
+    default: return any(65536) << 16 | any(65536);
+    }
+}
+
+static uint16_t sid_like(void) {
+    switch (any(4)) {
+    case 0: return any(65536);
+    case 1: return 64 * any(20);
+    default: return any(20);
+    }
+}
+
+static uint32_t length_like(void) {
+    switch (any(6)) {
+    case 0: return 0;
+    case 1: return PAYLOAD;
+    case 2: return PAYLOAD + 1;
+    default: return any(PAYLOAD + 1);
+    }
+}
+
+static void any_session(int i) {
+    uint32_t *w = slot(i);
+    w[STATE] = ESTABLISHED + any(3);
+    w[SID] = sid_like();
+    w[S] = counter(), w[H] = w[S] + any(5);
+    w[R] = counter(), w[G] = w[R] + any(5);
+    for (int k = 0; k < 4; k++) w[LENS + k] = any(PAYLOAD + 1);
+    for (int j = 0; j < i; j++)
+        if (slot(j)[STATE] != CLOSED && slot(j)[SID] == w[SID]) memset(w, 0, SLOT_WORDS * sizeof *w);
+}
+
+// One thing that well made may forbid.
+static void damage_record(void) {
+    uint32_t *w = slot(any(SLOTS)), *v = slot(any(SLOTS));
+    switch (any(6)) {
+    case 0: record[UP] = 0; break;
+    case 1: w[STATE] = any(4); break;
+    case 2: w[SID] = v[SID]; break;
+    case 3: w[LENS + any(4)] = any(65536); break;
+    case 4: w[LENS + any(4)] = PAYLOAD + 1; break;
+    default: w[S + any(4)] = counter(); break;
+    }
+}
+
+static void any_record(void) {
+    memset(record, 0, sizeof record);
+    record[ROLE] = any(2);
+    record[UP] = 1;
+    if (once_in(3)) return;
+    uint32_t full = any(17);
+    for (int i = 0; i < SLOTS; i++)
+        if (any(16) < full) any_session(i);
+    if (once_in(8)) memset(record + 1, 0, sizeof record - sizeof *record);
+    if (once_in(4)) damage_record();
+}
+
+// ---- a packet for the record as it stands
+
+static void put(uint8_t *p, uint32_t x, int n) {
+    for (int i = 0; i < n; i++) p[i] = x >> 8 * i;
+}
+
+static size_t any_packet(uint8_t *p) {
+    const uint32_t *w = slot(any(SLOTS));
+    for (int tries = 0; tries < 8 && (w[STATE] == CLOSED || w[STATE] == FIN_RECEIVED); tries++) w = slot(any(SLOTS));
+    uint32_t flags = any(8) < 5 ? DATA : once_in(4) ? FIN : ACK, sid = w[SID], sent = w[H] - w[S], left = w[G] - w[R];
+    uint32_t wndw = w[H] + (sent < 4 ? any(5 - sent) : 0), seqnum = w[R] + (left < 4 ? any(left + 1) : any(5));
+    if (flags == DATA && w[STATE] == ESTABLISHED && !once_in(30)) seqnum = w[R] + 1;
+    if (record[ROLE] == SERVER ? w[STATE] == CLOSED || once_in(12) : once_in(200)) {
+        flags = SYN, seqnum = 0, wndw = 4;
+        if (!once_in(30)) sid = sid_like();
+    }
+    size_t length = HEADER + (flags == DATA ? any(PAYLOAD + 1) : 0);
+    put(p, 0x53 | flags << 8, 2);
+    put(p + 2, sid, 2);
+    put(p + 4, length, 4);
+    put(p + 8, seqnum, 4);
+    put(p + 12, wndw, 4);
+    for (size_t i = HEADER; i < length; i++) p[i] = any(256);
+    return length;
+}
+
+static void damage_packet(uint8_t *p) {
+    switch (any(5)) {
+    case 0: put(p + 4, HEADER + length_like(), 4); break;
+    case 1: put(p + 8, counter(), 4); break;
+    case 2: put(p + 12, counter(), 4); break;
+    case 3: p[any(HEADER)] ^= 1 << any(8); break;
+    default: p[any(HEADER)] = any(256); break;
+    }
+}
+
+// ---- a step
+
+static struct Side {
+    uint32_t record[WORDS];
+    uint8_t storage[STORAGE + 8], out[PAYLOAD + HEADER + 32], ack[2 * HEADER];
+    uint64_t values[5];
+} ours, theirs;
+
+static uint64_t seen[CALLS][31], cells[2][4][9];
+
+// The state that a SID is in.
+static uint32_t state_of(uint32_t sid) {
+    for (int i = 0; i < SLOTS; i++)
+        if (slot(i)[STATE] != CLOSED && slot(i)[SID] == sid) return slot(i)[STATE];
+    return CLOSED;
+}
+
+static size_t room(size_t usual) {
+    return once_in(12) ? any(usual + 1) : usual;
+}
+
+static void step(unsigned long n, uint32_t damage) {
+    static uint8_t bytes[PAYLOAD + HEADER + 600];
+    uint32_t call = any(20), sid = once_in(8) ? sid_like() : slot(any(SLOTS))[SID];
+    call = call < 10 ? TAKE : call < 13 ? SEND : call < 16 ? READ : call < 17 ? CLOSE : call < 19 ? OPEN : once_in(40) ? SHUTDOWN : once_in(40) ? START : READ;
+    size_t given = length_like(), storage = once_in(60) ? STORAGE - 1 - any(2) : STORAGE + any(9), out = room(PAYLOAD + HEADER + any(32)), ack = room(HEADER + any(16));
+    if (call == TAKE) {
+        given = any_packet(bytes);
+        if (damage && once_in(damage)) damage_packet(bytes);
+        if (once_in(12)) given = any(given + 1);
+        else if (once_in(3)) given += any(600);
+    }
+    if (once_in(20)) out = any(HEADER + 4);
+    bench_call(call, sid, ours.record, WORDS, bytes, given, ours.storage, storage, ours.out, out, ours.ack, ack, ours.values, 1, 0, 0);
+    c_call(call, sid, theirs.record, WORDS, bytes, given, theirs.storage, storage, theirs.out, out, theirs.ack, ack, theirs.values, 1, 0, 0);
+    if (memcmp(&ours, &theirs, sizeof ours) != 0) {
+        printf("step %lu, call %u: they differ\n", n, call);
+        for (int i = 0; i < 5; i++) printf("  value %d: the proved call %lu, the C %lu\n", i, (unsigned long)ours.values[i], (unsigned long)theirs.values[i]);
+        exit(1);
+    }
+    if (call == TAKE && ours.values[0] == 0) cells[record[ROLE]][state_of(ours.values[3])][ours.values[2]]++;
+    seen[call][ours.values[0]]++;
+    memcpy(record, ours.record, sizeof record);
+}
+
+// ---- each call gives each of its numbers, and take does what each cell of its table says, at both ends
+
+static const uint8_t numbers[CALLS][24] = {
+    [START] = {0},
+    [OPEN] = {0, 12, 1, 2, 3, 9},
+    [SEND] = {0, 12, 1, 4, 5, 6, 7, 9},
+    [READ] = {0, 12, 1, 4, 5, 8, 11, 9},
+    [CLOSE] = {0, 12, 1, 4, 5, 9},
+    [SHUTDOWN] = {0, 12, 1},
+    [TAKE] = {0, 12, 1, 9, 10, 20, 21, 22, 24, 25, 26, 27, 23, 30, 28, 29},
+};
+
+static int all_seen(void) {
+    static const char *const names[CALLS] = {"start", "open", "send", "read", "close", "shutdown", "take"};
+    int good = 1;
+    for (int c = 0; c < CALLS; c++) {
+        printf("  %-8s", names[c]);
+        for (int i = 0; i < 24 && (i == 0 || numbers[c][i]); i++) {
+            printf(" %u:%lu", numbers[c][i], (unsigned long)seen[c][numbers[c][i]]);
+            good &= seen[c][numbers[c][i]] > 0;
+        }
+        printf("\n");
+    }
+    for (int role = CLIENT; role <= SERVER; role++) {
+        const uint64_t *e = cells[role][ESTABLISHED], *f = cells[role][FIN_SENT];
+        printf("  %s's table: ESTABLISHED DATA %lu ACK %lu FIN %lu, FIN SENT DATA %lu ACK %lu FIN %lu\n", role ? "server" : "client",
+            (unsigned long)e[DATA], (unsigned long)e[ACK], (unsigned long)e[FIN], (unsigned long)f[DATA], (unsigned long)f[ACK], (unsigned long)f[FIN]);
+        good &= e[DATA] && e[ACK] && e[FIN] && f[DATA] && f[ACK] && f[FIN];
+    }
+    return good;
+}
+
+int main(int argc, char **argv) {
+    unsigned long steps = argc > 1 ? strtoul(argv[1], NULL, 10) : 100000, n = 0, tenth = 1;
+    for (size_t i = 0; i < sizeof ours.storage; i++) ours.storage[i] = theirs.storage[i] = any(256);
+    while (n < steps) {
+        static const uint32_t damages[] = {0, 40, 3};
+        uint32_t damage = damages[any(3)];
+        any_record();
+        memcpy(ours.record, record, sizeof record);
+        memcpy(theirs.record, record, sizeof record);
+        for (int i = any(200), ended = 0; i >= 0 && !ended; i--) {
+            step(n++, damage);
+            ended = (!record[UP] || ours.values[0] == 12) && once_in(3);
+        }
+        if (n * 10 >= steps * tenth) fprintf(stderr, "compared %lu calls\n", n), tenth = n * 10 / steps + 1;
+    }
+    printf("%lu calls, the same numbers, values, records and bytes; how often each number came:\n", n);
+    if (all_seen()) return 0;
+    printf("a number never came, or a cell was never reached\n");
+    return 1;
+}

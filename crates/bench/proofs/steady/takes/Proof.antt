@@ -1,0 +1,80 @@
+-- Safe: the next packet begins within the bytes. The measure is how many calls are left.
+use Prim.Native.Nat.{_-_, _≤_}
+use mathlib.Core.Path.{_≡_}
+use lib.ListN.{length}
+use borrow.Author.Needs.{needs}
+use Rattle.bench.proofs.steady.takes.Statement.{statement}
+use Rattle.bench.proofs.steady.takes.Tie as tie
+
+abbrev Inv-loop : tie.InvT-loop
+Inv-loop bytes storage₀ count e₀ number₀ values₀ at₀ sum₀ n₀ storage e number values at sum n = (n ≤ count) × (at ≤ length bytes) × (length storage ≡ length storage₀)
+
+abbrev μ-loop : tie.MeasureT-loop
+μ-loop bytes storage₀ count e₀ number₀ values₀ at₀ sum₀ n₀ storage e number values at sum n = count - n
+
+loop-holds : tie.Need-loop-holds Inv-loop μ-loop
+loop-holds c = search needs
+
+sub-take : tie.Need-sub-take Inv-loop μ-loop
+sub-take c = search needs
+
+part-take-start : tie.Need-part-take-start Inv-loop μ-loop
+part-take-start c = search needs
+
+part-take-end : tie.Need-part-take-end Inv-loop μ-loop
+part-take-end c = search needs
+
+take-requires : tie.Need-take-requires Inv-loop μ-loop
+take-requires c κs = search needs
+
+past-requires : tie.Need-past-requires Inv-loop μ-loop
+past-requires c κs = search needs
+
+tally-requires : tie.Need-tally-requires Inv-loop μ-loop
+tally-requires c κs = search needs
+
+cast-t21 : tie.Need-cast-t21 Inv-loop μ-loop
+cast-t21 c = search needs
+
+cast-t22 : tie.Need-cast-t22 Inv-loop μ-loop
+cast-t22 c = search needs
+
+add-n : tie.Need-add-n Inv-loop μ-loop
+add-n c = search needs
+
+loop-less : tie.Need-loop-less Inv-loop μ-loop
+loop-less c = search needs
+
+loop-again : tie.Need-loop-again Inv-loop μ-loop
+loop-again c = search needs
+
+of-requires : tie.Need-of-requires Inv-loop μ-loop
+of-requires c κs = search needs
+
+same-length : tie.Need-same-length Inv-loop μ-loop
+same-length c = search needs
+
+returns : tie.Need-returns Inv-loop μ-loop
+returns c = search needs
+
+pub takes-spec : {M : Type 1} → statement M
+takes-spec =
+    tie.close
+    (tie.spec
+    Inv-loop
+    μ-loop
+    loop-holds
+    sub-take
+    part-take-start
+    part-take-end
+    take-requires
+    past-requires
+    tally-requires
+    cast-t21
+    cast-t22
+    add-n
+    loop-less
+    loop-again
+    of-requires
+    same-length
+    returns)

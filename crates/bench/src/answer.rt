@@ -1,0 +1,21 @@
+// What comes back of one call or more.
+use table::end::End;
+
+// The number and the values of the last answer, in its order; the sum of all numbers and lengths; the record.
+pub(crate) struct Answer {
+    pub number: u8,
+    pub values: [u64; 4],
+    pub sum: u64,
+    pub end: End,
+}
+
+impl Answer {
+    pub(crate) fn of(number: u8, values: [u64; 4], sum: u64, end: End) -> Answer {
+        Answer {
+            number: number,
+            values: values,
+            sum: sum,
+            end: end,
+        }
+    }
+}

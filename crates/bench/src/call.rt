@@ -1,0 +1,91 @@
+// Any call on any record: what bench/ calls from C.
+use crate::answer::Answer;
+use crate::steady::reads;
+use crate::steady::sends;
+use crate::steady::takes;
+use crate::words::end_of;
+use crate::words::put_end;
+use table::end::End;
+
+fn started(e: End) -> Answer {
+    let role = e.role;
+    let r = smp::start::start(role);
+    let end = r.end;
+    Answer::of(r.number, [0; 4], 0, end)
+}
+
+fn opened(e: End, packet: &mut [u8]) -> Answer {
+    let r = smp::open::open(e, packet);
+    let end = r.end;
+    Answer::of(r.number, [r.sid as u64, r.length as u64, 0, 0], 0, end)
+}
+
+fn closed(e: End, sid: u16, packet: &mut [u8]) -> Answer {
+    let r = smp::close::close(e, sid, packet);
+    let end = r.end;
+    Answer::of(r.number, [r.length as u64, 0, 0, 0], 0, end)
+}
+
+fn stopped(e: End) -> Answer {
+    let r = smp::shutdown::shutdown(e);
+    let end = r.end;
+    Answer::of(r.number, [0; 4], 0, end)
+}
+
+// Start 0, open 1, send 2, read 3, close 4, shutdown 5, take 6. Send, read and take are made count times.
+fn called(
+    call: u32,
+    e: End,
+    sid: u16,
+    bytes: &[u8],
+    storage: &mut [u8],
+    out: &mut [u8],
+    ack: &mut [u8],
+    count: usize,
+    last: u16,
+    step: u16,
+) -> Answer {
+    match call {
+        0 => started(e),
+        1 => opened(e, out),
+        2 => sends(e, sid, bytes, out, count, last, step),
+        3 => reads(e, sid, storage, out, ack, count, last, step),
+        4 => closed(e, sid, out),
+        5 => stopped(e),
+        _ => takes(e, bytes, storage, count),
+    }
+}
+
+// The record's words become those of the record that comes back; five values: the number and what the last call's answer gives beside it.
+#[no_mangle]
+pub extern "C" fn bench_call(
+    call: u32,
+    sid: u16,
+    record: &mut [u32],
+    bytes: &[u8],
+    storage: &mut [u8],
+    out: &mut [u8],
+    ack: &mut [u8],
+    values: &mut [u64; 5],
+    count: usize,
+    last: u16,
+    step: u16,
+) -> u64 {
+    let r = called(
+        call,
+        end_of(record),
+        sid,
+        bytes,
+        storage,
+        out,
+        ack,
+        count,
+        last,
+        step,
+    );
+    let end = r.end;
+    put_end(record, end);
+    let v = r.values;
+    *values = [r.number as u64, v[0], v[1], v[2], v[3]];
+    r.sum
+}

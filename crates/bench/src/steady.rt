@@ -1,0 +1,112 @@
+// One call many times over, with the end in one local: what bench/ counts. The C beside it has the same three loops.
+ghost use Prim.Native.Nat.{_≤_};
+use crate::answer::Answer;
+use smp::read::read;
+use smp::send::send;
+use smp::take::take;
+use table::end::End;
+
+// So that no call can be left out.
+fn tally(sum: u64, number: u8, length: usize) -> u64 {
+    std::num::wrapping_add_u64(
+        std::num::wrapping_add_u64(sum, number as u64),
+        length as u64,
+    )
+}
+
+// Past the bytes used, and never past the last.
+fn past(at: usize, used: usize, n: usize) -> usize
+    requires { ⌜ at ≤ n ⌝ }
+    ensures { λ r. ⌜ r ≤ n ⌝ }
+{
+    if used <= n - at { at + used } else { n }
+}
+
+// The sessions in turn: 0, step, 2 step, and so on to the last.
+fn next_sid(sid: u16, last: u16, step: u16) -> u16 {
+    if sid == last {
+        0
+    } else {
+        std::num::wrapping_add_u16(sid, step)
+    }
+}
+
+// Takes that many packets of a stream.
+pub(crate) fn takes(first: End, bytes: &[u8], storage: &mut [u8], count: usize) -> Answer {
+    let mut e = first;
+    let mut number = 0;
+    let mut values = [0; 4];
+    let mut at = 0;
+    let mut sum = 0;
+    let mut n = 0;
+    while n < count {
+        let t = take(e, &bytes[at..], storage);
+        at = past(at, t.used, bytes.len());
+        sum = tally(sum, t.number, t.used);
+        number = t.number;
+        values = [t.used as u64, t.kind as u64, t.sid as u64, t.missing as u64];
+        let after = t.end;
+        e = after;
+        n += 1;
+    }
+    Answer::of(number, values, sum, e)
+}
+
+// Sends one payload that many times, on each session in turn.
+pub(crate) fn sends(
+    first: End,
+    start: u16,
+    payload: &[u8],
+    packet: &mut [u8],
+    count: usize,
+    last: u16,
+    step: u16,
+) -> Answer {
+    let mut e = first;
+    let mut sid = start;
+    let mut number = 0;
+    let mut values = [0; 4];
+    let mut sum = 0;
+    let mut n = 0;
+    while n < count {
+        let s = send(e, sid, payload, packet);
+        sid = next_sid(sid, last, step);
+        sum = tally(sum, s.number, s.length);
+        number = s.number;
+        values = [s.length as u64, 0, 0, 0];
+        let after = s.end;
+        e = after;
+        n += 1;
+    }
+    Answer::of(number, values, sum, e)
+}
+
+// Reads that many payloads, from each session in turn.
+pub(crate) fn reads(
+    first: End,
+    start: u16,
+    storage: &[u8],
+    payload: &mut [u8],
+    ack: &mut [u8],
+    count: usize,
+    last: u16,
+    step: u16,
+) -> Answer {
+    let mut e = first;
+    let mut sid = start;
+    let mut number = 0;
+    let mut values = [0; 4];
+    let mut sum = 0;
+    let mut n = 0;
+    while n < count {
+        let g = read(e, sid, storage, payload, ack);
+        sid = next_sid(sid, last, step);
+        sum = tally(sum, g.number, g.payload);
+        number = g.number;
+        values = [g.payload as u64, g.ack as u64, 0, 0];
+        let after = g.end;
+        e = after;
+        n += 1;
+    }
+    Answer::of(number, values, sum, e)
+}
