@@ -18,6 +18,7 @@ use Rattle.lane.proofs.Lane.{put, get, shut, deliver, moved, toward}
 use Rattle.lane.proofs.World.{Item, syn, pkt, World}
 use Rattle.lane.proofs.Acts.{Act, dial, greet, turn, act, owner}
 use Rattle.pair.specs.World.{Party, sized}
+use Rattle.pair.specs.Step as step
 use Rattle.pair.specs.Step.{Open, Send, Read, Close, Take, Step, Reply, emitting}
 use Rattle.pair.specs.History.{Scene, entry}
 use Rattle.pair.proofs.Bytes.Encoded.{kindOf, packetFor, synFor, emitted, handed}
@@ -60,31 +61,11 @@ pub data Performs (slots place : ℕ) (x : Scene) (W : World) : Step → Act →
 -- ---- the reply that an act gets
 
 abbrev pub takingReply : ℕ → ℕ → ℕ → Reply
-takingReply used kind sid = record {
-  number = 0;
-  sid = sid;
-  used = used;
-  kind = kind;
-  missing = 0;
-  payloadLength = 0;
-  payload = [];
-  packetLength = 0;
-  packet = [];
-}
+takingReply used kind sid = step.taking 0 used kind sid 0
 
 -- the reply with that number, where these bytes are read and these sent
 abbrev pub answered : ℕ → List ℕ → List ℕ → Reply
-answered number read sent = record {
-  number = number;
-  sid = 0;
-  used = 0;
-  kind = 0;
-  missing = 0;
-  payloadLength = length read;
-  payload = read;
-  packetLength = length sent;
-  packet = sent;
-}
+answered number read sent = step.reading number (length read) read (length sent) sent
 
 abbrev pub outReply : ℕ → Out → Reply
 outReply sid o = answered (o .ans) (handed (o .pay)) (emitted sid (o .emit))

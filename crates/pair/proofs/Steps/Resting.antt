@@ -2,14 +2,14 @@
 use Prim.Native.Nat.{ℕ, _<_}
 use native.Mathlib.Omega.{arith}
 use mathlib.Core.Path.{_≡_, refl, ap, _∙_}
-use mathlib.Core.List.{List, [], append-nil}
+use mathlib.Core.List.{List, append-nil}
 use mathlib.Core.Option.{Option, none}
 use lib.ListN.{length}
 use Rattle.first.proofs.First.{done-not}
 use Rattle.lane.specs.Side.{Side, other}
 use Rattle.lane.proofs.World.{World}
 use Rattle.pair.specs.World.{Party, with, sized}
-use Rattle.pair.specs.Step.{Call, Open, Send, Read, Close, Take, Step, Reply, Done, did, acted, reached}
+use Rattle.pair.specs.Step.{Call, Open, Send, Read, Close, Take, Step, Reply, Done, did, acted, reached, taking}
 use Rattle.pair.specs.Whose.{Marked, left, owners, counted, noted}
 use Rattle.pair.specs.History.{Scene, whoseIn}
 use Rattle.pair.proofs.Mirror.Scene.{Mirror}
@@ -48,17 +48,7 @@ counted-refused (Take given lent) r n h = refl
 
 -- what a refusal shows: the number, and take's count of the bytes missing
 abbrev pub refusal : ℕ → ℕ → Reply
-refusal n missing = record {
-  number = n;
-  sid = 0;
-  used = 0;
-  kind = 0;
-  missing = missing;
-  payloadLength = 0;
-  payload = [];
-  packetLength = 0;
-  packet = [];
-}
+refusal n missing = taking n 0 0 0 missing
 
 -- its side as it was
 abbrev pub refused : ℕ → ℕ → Party → Done
