@@ -1,8 +1,9 @@
 //! `calls`: one call a line on one end. Here are the line grammar and the answer lines;
 //! the calls themselves are in `end.rs`.
 
-use crate::end::{Answer, End, Slot, SLOTS, STORAGE};
+use crate::end::Answer;
 use crate::packet::{hex, unhex};
+use crate::record::{End, Slot, SLOTS, STORAGE};
 use std::io::{Read, Result, Write};
 
 pub const LONGEST_LINE: usize = 16_384;

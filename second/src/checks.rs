@@ -1,8 +1,8 @@
 //! The checks of all calls of `end.rs`: a table of what each call asks, in document 01's order,
 //! and one function that finds the first ask that fails.
 
-use crate::end::{End, Slot, ESTABLISHED, FIN_RECEIVED, FIN_SENT, FREE, STORAGE, WINDOW};
 use crate::packet::{Header, ACK, DATA, FIN, HEADER, PAYLOAD, SMID, SYN};
+use crate::record::{End, Slot, ESTABLISHED, FIN_RECEIVED, FIN_SENT, FREE, STORAGE, WINDOW};
 
 #[derive(Clone, Copy)]
 pub enum Ask {
@@ -97,27 +97,6 @@ pub struct Given<'a> {
 }
 
 impl End {
-    pub fn is_well_made(&self) -> bool {
-        for (i, slot) in self.slots.iter().enumerate() {
-            if slot.state == FREE {
-                if !slot.is_all_zeros() {
-                    return false;
-                }
-                continue;
-            }
-            let good = self.up
-                && slot.h.wrapping_sub(slot.s) <= WINDOW
-                && slot.g.wrapping_sub(slot.r) <= WINDOW
-                && slot.lengths.iter().all(|&length| usize::from(length) <= PAYLOAD);
-            let twin =
-                self.slots[..i].iter().any(|other| other.state != FREE && other.sid == slot.sid);
-            if !good || twin {
-                return false;
-            }
-        }
-        true
-    }
-
     /// The number of the first ask that fails, 0 if none does.
     pub fn check(&self, asks: Asks, given: &Given) -> u32 {
         let failed = asks.iter().find(|(ask, _)| !self.holds(*ask, given));

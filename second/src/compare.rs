@@ -1,6 +1,7 @@
 //! The comparer: gives the same inputs to the other implementation and to this one, and compares
 //! the answers byte for byte. A difference is made small and shown.
 
+mod parting;
 mod run;
 mod show;
 mod shrink;
@@ -8,7 +9,8 @@ mod tally;
 
 use crate::make::{self, edges, pieces, Piece};
 use crate::{calls, feed};
-use run::{Output, Program};
+use parting::{parting, Parting};
+use run::Program;
 use shrink::{shrink, Bound};
 use std::ffi::OsString;
 use std::path::PathBuf;
@@ -38,26 +40,6 @@ struct Case {
     name: String,
     groups: Vec<Vec<Piece>>,
     pause: bool,
-}
-
-/// Where two outputs part.
-struct Parting {
-    line: usize,
-    ours: Option<Vec<u8>>,
-    other: Option<Vec<u8>>,
-    trouble: Option<String>,
-    never_started: bool,
-}
-
-fn parting(ours: &[u8], other: &Output) -> Option<Parting> {
-    if ours == other.bytes && other.trouble.is_none() {
-        return None;
-    }
-    let (a, b) = (pieces(ours), pieces(&other.bytes));
-    let line = a.iter().zip(&b).take_while(|(a, b)| a == b).count();
-    let (ours, other_line) = (a.get(line).cloned(), b.get(line).cloned());
-    let (trouble, never_started) = (other.trouble.clone(), other.never_started);
-    Some(Parting { line, ours, other: other_line, trouble, never_started })
 }
 
 impl Both {

@@ -1,55 +1,9 @@
-//! One end by document 01, for `calls`: the record and the lent storage in one structure, changed
-//! in place. What the calls ask before they change anything is in `checks.rs`.
+//! The calls of document 01 on one end, for `calls`: they change its record and the lent storage in
+//! place. What they ask before they change anything is in `checks.rs`.
 
 use crate::checks::{Given, CLOSE, OPEN, READ, SEND, SHUTDOWN, TAKE, TAKE_OTHER, TAKE_SYN};
 use crate::packet::{packet, Header, ACK, DATA, FIN, HEADER, PAYLOAD, SYN};
-
-pub const SLOTS: usize = 16;
-pub const PLACES: usize = 4;
-pub const STORAGE: usize = SLOTS * PLACES * PAYLOAD;
-pub const WINDOW: u32 = 4;
-
-pub const FREE: u8 = 0;
-pub const ESTABLISHED: u8 = 1;
-pub const FIN_SENT: u8 = 2;
-pub const FIN_RECEIVED: u8 = 3;
-
-#[derive(Clone, Default, PartialEq, Debug)]
-pub struct Slot {
-    pub state: u8,
-    pub sid: u16,
-    pub s: u32,
-    pub h: u32,
-    pub r: u32,
-    pub g: u32,
-    pub lengths: [u16; PLACES],
-}
-
-impl Slot {
-    fn fresh(sid: u16) -> Slot {
-        Slot { state: ESTABLISHED, sid, h: WINDOW, g: WINDOW, ..Slot::default() }
-    }
-
-    pub fn is_all_zeros(&self) -> bool {
-        *self == Slot::default()
-    }
-
-    pub fn unread(&self) -> u32 {
-        match self.state {
-            ESTABLISHED | FIN_RECEIVED => self.r.wrapping_add(WINDOW).wrapping_sub(self.g),
-            _ => 0,
-        }
-    }
-
-    /// The place of the oldest unread payload.
-    pub fn oldest(&self) -> usize {
-        place(self.g.wrapping_sub(3))
-    }
-}
-
-fn place(seqnum: u32) -> usize {
-    (seqnum % PLACES as u32) as usize
-}
+use crate::record::{place, End, Slot, ESTABLISHED, FIN_RECEIVED, FIN_SENT, PLACES, WINDOW};
 
 /// What a call gives back. All but the number is zero on a refusal (but for 10's `missing`).
 #[derive(Default, Debug, PartialEq)]
@@ -65,36 +19,7 @@ pub struct Answer {
     pub missing: usize,
 }
 
-#[derive(Clone)]
-pub struct End {
-    pub server: bool,
-    pub up: bool,
-    pub slots: [Slot; SLOTS],
-    pub storage: Vec<u8>,
-    /// How many of the storage's bytes calls get.
-    pub lent: usize,
-}
-
 impl End {
-    /// A client that is down, with a whole storage of zeros.
-    pub fn new() -> End {
-        End {
-            server: false,
-            up: false,
-            slots: Default::default(),
-            storage: vec![0; STORAGE],
-            lent: STORAGE,
-        }
-    }
-
-    pub fn find(&self, sid: u16) -> Option<usize> {
-        self.slots.iter().position(|slot| slot.state != FREE && slot.sid == sid)
-    }
-
-    pub fn free_slot(&self) -> Option<usize> {
-        self.slots.iter().position(|slot| slot.state == FREE)
-    }
-
     pub fn start(&mut self, server: bool) {
         self.server = server;
         self.up = true;

@@ -1,5 +1,5 @@
-//! `feed` by document 01, "The line program". It shares no types with `end.rs`: sessions stand in
-//! a map by SID, payloads in queues, and a session's unread packets are its queue's length.
+//! `feed` by document 01, "The line program". It shares no types with `record.rs`: sessions stand
+//! in a map by SID, payloads in queues, and a session's unread packets are its queue's length.
 //! A fresh server never sends, reads or closes, so only its take is here.
 
 use crate::packet::{unhex, Header, ACK, DATA, FIN, HEADER, PAYLOAD, SMID, SYN};

@@ -10,6 +10,7 @@ mod feed;
 mod make;
 mod packet;
 mod random;
+mod record;
 #[cfg(test)]
 mod tests;
 

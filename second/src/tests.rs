@@ -1,11 +1,11 @@
 //! Tests worked out from document 01: its bench values, its listing, and a few lines of `calls`.
 
 use crate::calls::{answers, Calls};
-use crate::end::{End, Slot, ESTABLISHED};
 use crate::feed::report;
 use crate::make::edges::{LISTING, LISTING_REPORT};
 use crate::make::{capture, script};
 use crate::packet::{packet, unhex, Header, ACK, DATA};
+use crate::record::{End, Slot, ESTABLISHED};
 
 fn server_with(slot: Slot) -> End {
     let mut end = End::new();

@@ -1,6 +1,6 @@
 //! How a difference is printed: a small input, the line where the outputs part, and both lines.
 
-use super::Parting;
+use super::parting::Parting;
 use crate::make::Piece;
 
 /// Lines printed before the middle of a long input is left out, and on each side of it.
@@ -10,7 +10,7 @@ const SIDE: usize = 15;
 const MOST_CHARACTERS: usize = 3_000;
 const AROUND: usize = 40;
 
-pub(super) fn print_input(lines: &[Piece], parting: &Parting) {
+pub fn print_input(lines: &[Piece], parting: &Parting) {
     let end = lines.len().min(parting.line + 2);
     for (i, line) in lines.iter().enumerate().take(end) {
         if end <= MOST_LINES || i < SIDE || i + SIDE >= end {
@@ -21,7 +21,7 @@ pub(super) fn print_input(lines: &[Piece], parting: &Parting) {
     }
 }
 
-pub(super) fn print_parting(parting: &Parting) {
+pub fn print_parting(parting: &Parting) {
     println!("They part at line {} of the output.", parting.line + 1);
     let none = Vec::new();
     let (ours, other) =

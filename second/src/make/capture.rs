@@ -3,10 +3,10 @@
 
 use super::damage::{allowed, faulty};
 use super::fields::{self, right, slots_in, syn, unknown_sid, used_slots};
-use crate::end::{End, ESTABLISHED, FIN_RECEIVED, SLOTS};
 use crate::feed::INPUT;
 use crate::packet::{hex, ACK, DATA, FIN};
 use crate::random::Random;
+use crate::record::{End, ESTABLISHED, FIN_RECEIVED, SLOTS};
 
 /// The faults that a server whose owner does nothing can meet.
 const FAULTS: [u32; 10] = [20, 21, 22, 23, 25, 26, 27, 28, 29, 30];

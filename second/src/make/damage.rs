@@ -1,9 +1,9 @@
 //! Packets that are a given fault at a given end, one for every number from 20 to 30.
 
 use super::fields::{right, right_seqnum, sid, slots_in, syn, unknown_sid, used_slots};
-use crate::end::{End, ESTABLISHED, FIN_RECEIVED, FIN_SENT, SLOTS};
 use crate::packet::{packet, ACK, DATA, FIN, HEADER};
 use crate::random::Random;
+use crate::record::{End, ESTABLISHED, FIN_RECEIVED, FIN_SENT, SLOTS};
 
 /// Whether the end's record allows the fault.
 pub fn allowed(end: &End, fault: u32) -> bool {

@@ -4,7 +4,7 @@ use super::damage::{allowed, faulty};
 use super::fields::{self, unknown_sid};
 use super::talk::Talk;
 use super::traffic::{start_again, traffic, while_down, EVEN, MUCH_CLOSING, NOBODY_READS};
-use crate::end::{Slot, ESTABLISHED, FIN_RECEIVED, FIN_SENT, FREE, SLOTS};
+use crate::record::{Slot, ESTABLISHED, FIN_RECEIVED, FIN_SENT, FREE, SLOTS};
 
 /// Some traffic, then a packet that is a fault; this once or twice.
 pub fn faults(talk: &mut Talk) {

@@ -1,9 +1,9 @@
 //! Random values for lines and packets: payloads, records, and packets that an end accepts
 //! or nearly accepts. The values lie at or beside the bounds that document 01 sets.
 
-use crate::end::{End, Slot, ESTABLISHED, FREE, SLOTS};
 use crate::packet::{packet, Header, ACK, DATA, FIN, HEADER, PAYLOAD, SMID, SYN};
 use crate::random::Random;
+use crate::record::{End, Slot, ESTABLISHED, FREE, SLOTS};
 
 pub fn payload(dice: &mut Random) -> Vec<u8> {
     let count = match dice.weighted(&[12, 66, 12, 4, 6]) {

@@ -4,8 +4,8 @@
 use super::fields::{self, slots_in, unknown_sid, used_slots};
 use super::talk::Talk;
 use super::traffic::{call, odd_call, start_again, traffic, EVEN};
-use crate::end::{Slot, ESTABLISHED, FIN_RECEIVED, FIN_SENT, FREE, SLOTS};
 use crate::random::Random;
+use crate::record::{Slot, ESTABLISHED, FIN_RECEIVED, FIN_SENT, FREE, SLOTS};
 
 /// Any well-made record, then calls and packets at the bounds of its counters.
 pub fn any_records(talk: &mut Talk) {

@@ -9,8 +9,8 @@ use super::traffic::{
     start_again, step, traffic, while_down, EVEN, MANY, MUCH_CLOSING, NOBODY_READS, PEER_READS_ALL,
     WE_READ_ALL,
 };
-use crate::end::SLOTS;
 use crate::random::Random;
+use crate::record::SLOTS;
 
 pub fn script(dice: Random) -> Vec<Vec<u8>> {
     let mut talk = Talk::new(dice);

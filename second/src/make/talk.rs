@@ -3,9 +3,9 @@
 
 use super::fields;
 use crate::calls::Calls;
-use crate::end::{End, Slot, ESTABLISHED, FIN_RECEIVED, FIN_SENT, PLACES, SLOTS, STORAGE};
 use crate::packet::{hex, unhex, Header, HEADER, PAYLOAD};
 use crate::random::Random;
+use crate::record::{End, Slot, ESTABLISHED, FIN_RECEIVED, FIN_SENT, PLACES, SLOTS, STORAGE};
 
 /// The most bytes for one `take`, so that its line isn't too long.
 const LARGEST_TAKE: usize = 8_000;

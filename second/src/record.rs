@@ -1,0 +1,104 @@
+//! The records of document 01, for `calls`: a session's slot, and an end with its sixteen slots
+//! and the lent storage. Here is what a record tells by itself; the calls are in `end.rs`.
+
+use crate::packet::PAYLOAD;
+
+pub const SLOTS: usize = 16;
+pub const PLACES: usize = 4;
+pub const STORAGE: usize = SLOTS * PLACES * PAYLOAD;
+pub const WINDOW: u32 = 4;
+
+pub const FREE: u8 = 0;
+pub const ESTABLISHED: u8 = 1;
+pub const FIN_SENT: u8 = 2;
+pub const FIN_RECEIVED: u8 = 3;
+
+#[derive(Clone, Default, PartialEq, Debug)]
+pub struct Slot {
+    pub state: u8,
+    pub sid: u16,
+    pub s: u32,
+    pub h: u32,
+    pub r: u32,
+    pub g: u32,
+    pub lengths: [u16; PLACES],
+}
+
+impl Slot {
+    pub fn fresh(sid: u16) -> Slot {
+        Slot { state: ESTABLISHED, sid, h: WINDOW, g: WINDOW, ..Slot::default() }
+    }
+
+    pub fn is_all_zeros(&self) -> bool {
+        *self == Slot::default()
+    }
+
+    pub fn unread(&self) -> u32 {
+        match self.state {
+            ESTABLISHED | FIN_RECEIVED => self.r.wrapping_add(WINDOW).wrapping_sub(self.g),
+            _ => 0,
+        }
+    }
+
+    /// The place of the oldest unread payload.
+    pub fn oldest(&self) -> usize {
+        place(self.g.wrapping_sub(3))
+    }
+}
+
+/// The place, among a slot's four, of the payload with a SEQNUM.
+pub fn place(seqnum: u32) -> usize {
+    (seqnum % PLACES as u32) as usize
+}
+
+#[derive(Clone)]
+pub struct End {
+    pub server: bool,
+    pub up: bool,
+    pub slots: [Slot; SLOTS],
+    pub storage: Vec<u8>,
+    /// How many of the storage's bytes calls get.
+    pub lent: usize,
+}
+
+impl End {
+    /// A client that is down, with a whole storage of zeros.
+    pub fn new() -> End {
+        End {
+            server: false,
+            up: false,
+            slots: Default::default(),
+            storage: vec![0; STORAGE],
+            lent: STORAGE,
+        }
+    }
+
+    pub fn find(&self, sid: u16) -> Option<usize> {
+        self.slots.iter().position(|slot| slot.state != FREE && slot.sid == sid)
+    }
+
+    pub fn free_slot(&self) -> Option<usize> {
+        self.slots.iter().position(|slot| slot.state == FREE)
+    }
+
+    pub fn is_well_made(&self) -> bool {
+        for (i, slot) in self.slots.iter().enumerate() {
+            if slot.state == FREE {
+                if !slot.is_all_zeros() {
+                    return false;
+                }
+                continue;
+            }
+            let good = self.up
+                && slot.h.wrapping_sub(slot.s) <= WINDOW
+                && slot.g.wrapping_sub(slot.r) <= WINDOW
+                && slot.lengths.iter().all(|&length| usize::from(length) <= PAYLOAD);
+            let twin =
+                self.slots[..i].iter().any(|other| other.state != FREE && other.sid == slot.sid);
+            if !good || twin {
+                return false;
+            }
+        }
+        true
+    }
+}
