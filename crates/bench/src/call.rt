@@ -1,33 +1,33 @@
 // Any call on any record: what bench/ calls from C.
 use crate::answer::Answer;
+use crate::crossing::end_of;
+use crate::crossing::put_end;
 use crate::steady::reads;
 use crate::steady::sends;
 use crate::steady::takes;
-use crate::words::end_of;
-use crate::words::put_end;
 use table::end::End;
 
 fn started(e: End) -> Answer {
     let role = e.role;
-    let r = smp::start::start(role);
+    let r = smp::start(role);
     let end = r.end;
     Answer::of(r.number, [0; 4], 0, end)
 }
 
 fn opened(e: End, packet: &mut [u8]) -> Answer {
-    let r = smp::open::open(e, packet);
+    let r = smp::open(e, packet);
     let end = r.end;
     Answer::of(r.number, [r.sid as u64, r.length as u64, 0, 0], 0, end)
 }
 
 fn closed(e: End, sid: u16, packet: &mut [u8]) -> Answer {
-    let r = smp::close::close(e, sid, packet);
+    let r = smp::close(e, sid, packet);
     let end = r.end;
     Answer::of(r.number, [r.length as u64, 0, 0, 0], 0, end)
 }
 
 fn stopped(e: End) -> Answer {
-    let r = smp::shutdown::shutdown(e);
+    let r = smp::shutdown(e);
     let end = r.end;
     Answer::of(r.number, [0; 4], 0, end)
 }

@@ -2,5 +2,5 @@
 // Of these functions it is proved that they are safe and end, and no more; what the calls do is promised in smp.
 mod answer;
 mod call;
+mod crossing;
 mod steady;
-mod words;

@@ -1,9 +1,9 @@
 // One call many times over, with the end in one local: what bench/ counts. The C beside it has the same three loops.
 ghost use Prim.Native.Nat.{_≤_};
 use crate::answer::Answer;
-use smp::read::read;
-use smp::send::send;
-use smp::take::take;
+use smp::read;
+use smp::send;
+use smp::take;
 use table::end::End;
 
 // So that no call can be left out.
@@ -101,9 +101,9 @@ pub(crate) fn reads(
     while n < count {
         let g = read(e, sid, storage, payload, ack);
         sid = next_sid(sid, last, step);
-        sum = tally(sum, g.number, g.payload);
+        sum = tally(sum, g.number, g.payload_length);
         number = g.number;
-        values = [g.payload as u64, g.ack as u64, 0, 0];
+        values = [g.payload_length as u64, g.ack_length as u64, 0, 0];
         let after = g.end;
         e = after;
         n += 1;

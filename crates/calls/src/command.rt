@@ -1,53 +1,37 @@
-// Which function answers a line: its first word says so.
+// Which function answers a line: its form says so.
 use crate::library;
 use crate::own;
-use crate::words;
+use crate::world::Said;
+use crate::world::Storage;
 use crate::world::World;
-use check::same;
+use fields::answer::Buffer;
+use table::end::End;
+use words::forms;
+use words::forms::Form;
 
-// The answer to a line, in out. A line that calls nothing is `bad`.
-pub(crate) fn answer(w: World, line: &[u8], storage: &mut [u8], out: &mut [u8]) -> World {
-    let name = words::word(line, 0);
-    if same(name, b"start") {
-        return library::start(w, line, out);
-    }
-    if same(name, b"open") {
-        return library::open(w, line, out);
-    }
-    if same(name, b"send") {
-        return library::send(w, line, out);
-    }
-    if same(name, b"read") {
-        return library::read(w, line, storage, out);
-    }
-    if same(name, b"close") {
-        return library::close(w, line, out);
-    }
-    if same(name, b"shutdown") {
-        return library::shutdown(w, line, out);
-    }
-    if same(name, b"take") {
-        return library::take(w, line, storage, out);
-    }
-    own_answer(w, line, storage, out)
+// The answer to a line, in out. Only `lend` changes how much of the storage calls get.
+pub(crate) fn answer(w: World, line: &[u8], storage: &mut Storage, out: &mut Buffer) -> World {
+    let form = forms::form_of(line);
+    let s = called(w.end, w.lend, form, line, storage, out);
+    World::after(s, own::lent(w.lend, form, line))
 }
 
-fn own_answer(w: World, line: &[u8], storage: &[u8], out: &mut [u8]) -> World {
-    let name = words::word(line, 0);
-    if same(name, b"lend") {
-        return own::lend(w, line, out);
+fn called(
+    e: End,
+    lend: usize,
+    form: Form,
+    line: &[u8],
+    storage: &mut Storage,
+    out: &mut Buffer,
+) -> Said {
+    match form {
+        Form::Start => library::start(line, out),
+        Form::Open => library::open(e, line, out),
+        Form::Send => library::send(e, line, out),
+        Form::Read => library::read(e, lend, line, storage, out),
+        Form::Close => library::close(e, line, out),
+        Form::Shutdown => library::shutdown(e, out),
+        Form::Take => library::take(e, lend, line, storage, out),
+        _ => own::line(e, form, line, storage, out),
     }
-    if same(name, b"record") {
-        return own::record(w, line, out);
-    }
-    if same(name, b"end") {
-        return own::end(w, line, out);
-    }
-    if same(name, b"show") {
-        return own::show(w, line, out);
-    }
-    if same(name, b"peek") {
-        return own::peek(w, line, storage, out);
-    }
-    own::bad(w, out)
 }

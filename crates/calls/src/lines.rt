@@ -1,17 +1,25 @@
 // Standard input, a line at a time: each line is answered as soon as it was read.
-use crate::answer;
+ghost use Rattle.words.specs.Held.{Front};
 use crate::command;
-use crate::own;
-use crate::rooms;
+use crate::world::Storage;
 use crate::world::World;
+use fields::answer::Buffer;
+use fields::reply;
+use fields::rooms;
 use libc::STDIN_FILENO;
 use libc::STDOUT_FILENO;
 use text::line::end_of;
+use words::held;
+use words::held::Line;
 
-pub(crate) const LONGEST: usize = 16384;
+// What one read gives at most.
+const READ: usize = 4096;
 
-// What the length of a line counts as that is longer.
-const TOO_LONG: usize = 18446744073709551615;
+pub type Bytes = [u8; READ];
+
+// The budget: a proved loop has to end, so the program stops after 2^63 reads. In a conversation, where each read gives a line, these are 2^63 lines.
+// Each read gives one byte or more, so they are at least 562 million million lines of the longest.
+const READS: u64 = 9223372036854775808;
 
 // What is kept from one read to the next: how long the line that isn't ended yet is so far, and whether there is more to do.
 pub struct Turn {
@@ -21,101 +29,93 @@ pub struct Turn {
 }
 
 impl Turn {
-    pub(crate) fn first() -> Turn {
-        Turn {
-            world: World::first(),
-            held: 0,
-            going: true,
-        }
+    fn first() -> Turn {
+        Turn::of(World::first(), 0, true)
     }
 
-    // The line is so long now.
-    fn holding(self, held: usize) -> Turn {
-        let w = self.world;
+    fn of(w: World, held: usize, going: bool) -> Turn {
         Turn {
             world: w,
             held: held,
-            going: self.going,
-        }
-    }
-
-    // There is no more to do.
-    fn over(self) -> Turn {
-        let w = self.world;
-        Turn {
-            world: w,
-            held: 0,
-            going: false,
+            going: going,
         }
     }
 }
 
-// Some characters join the line that is held. The answer is its length.
-fn join(line: &mut [u8], held: usize, part: &[u8]) -> usize {
-    if line.len() < held {
-        return TOO_LONG;
-    }
-    if line.len() - held < part.len() {
-        return TOO_LONG;
-    }
-    wire::write::copy_in(line, held, part);
-    held + part.len()
+// The answer line goes out in one write.
+fn write(out: &[u8], n: usize) -> bool {
+    let k = rooms::within(n, out);
+    io::write_all(STDOUT_FILENO, &out[..k])
 }
 
-// The answer to a line of n bytes; one that is too long is `bad`.
-fn reply(w: World, line: &[u8], n: usize, storage: &mut [u8], out: &mut [u8]) -> World {
-    if line.len() < n {
-        return own::bad(w, out);
-    }
-    command::answer(w, &line[..n], storage, out)
+// The line that is held is answered.
+fn ended(w: World, length: usize, line: &[u8], storage: &mut Storage, out: &mut Buffer) -> Turn {
+    let n = held::counted(length, line);
+    let v = command::answer(w, &line[..n], storage, out);
+    let k = reply::ended(out, v.said);
+    Turn::of(v, 0, write(out, k))
 }
 
-// The line that is held is answered, in one write.
-fn ended(t: Turn, line: &[u8], storage: &mut [u8], out: &mut [u8]) -> Turn {
-    let w = reply(t.world, line, t.held, storage, out);
-    let k = answer::put(out, w.said, b"\n");
-    let n = rooms::within(k, out);
-    let going = io::write_all(STDOUT_FILENO, &out[..n]);
-    Turn {
-        world: w,
-        held: 0,
-        going: going,
+// Some characters of a line, which is answered if it ends there.
+fn piece(
+    t: Turn,
+    part: &[u8],
+    is_end: bool,
+    line: &mut Line,
+    storage: &mut Storage,
+    out: &mut Buffer,
+) -> Turn {
+    let length = held::join(line, t.held, part);
+    if is_end {
+        return ended(t.world, length, line, storage, out);
     }
-}
-
-// The last characters of a line, which is answered.
-fn finished(t: Turn, part: &[u8], line: &mut [u8], storage: &mut [u8], out: &mut [u8]) -> Turn {
-    let held = join(line, t.held, part);
-    ended(t.holding(held), line, storage, out)
+    Turn::of(t.world, length, true)
 }
 
 // What one read gave: each line that ends in it is answered, and the rest is held.
-fn chunk(t: Turn, bytes: &[u8], line: &mut [u8], storage: &mut [u8], out: &mut [u8]) -> Turn {
+fn chunk(t: Turn, bytes: &[u8], line: &mut Line, storage: &mut Storage, out: &mut Buffer) -> Turn {
     let mut u = t;
     let mut at = 0;
-    let mut e = end_of(bytes, 0);
-    while e < bytes.len() {
-        u = finished(u, &bytes[at..e], line, storage, out);
+    while at < bytes.len() {
+        let e = end_of(bytes, at);
+        u = piece(u, &bytes[at..e], e < bytes.len(), line, storage, out);
         if !u.going {
             return u;
         }
         at = e + 1;
-        e = end_of(bytes, at);
     }
-    let held = join(line, u.held, &bytes[at..]);
-    u.holding(held)
+    u
 }
 
-// One read. At the end of the input, a last line without LF counts if not empty.
-pub(crate) fn next(t: Turn, line: &mut [u8], storage: &mut [u8], out: &mut [u8]) -> Turn {
-    let mut bytes = [0u8; 4096];
-    let got = libc::read(STDIN_FILENO, &mut bytes);
-    if 0 < got {
-        let n = io::count(got, &bytes);
-        return chunk(t, &bytes[..n], line, storage, out);
+// The input ended: a last line without LF counts if not empty.
+fn last(t: Turn, line: &[u8], storage: &mut Storage, out: &mut Buffer) {
+    if 0 < t.held {
+        ended(t.world, t.held, line, storage, out);
     }
-    if t.held == 0 {
-        return t.over();
+}
+
+// One read. The answer is how many bytes came: none at the end of the input.
+fn more(bytes: &mut Bytes) -> usize
+    ensures { λ r. ⌜ Front r (now (bytes .exit)) ⌝ }
+{
+    let got = libc::read(STDIN_FILENO, bytes);
+    io::count(got, bytes)
+}
+
+// Read after read, until the input ends or the output takes no more.
+pub(crate) fn converse(line: &mut Line, storage: &mut Storage, out: &mut Buffer) {
+    let mut t = Turn::first();
+    let mut bytes = [0u8; READ];
+    let mut left = READS;
+    while 0 < left {
+        let n = more(&mut bytes);
+        if n == 0 {
+            return last(t, line, storage, out);
+        }
+        t = chunk(t, &bytes[..n], line, storage, out);
+        if !t.going {
+            return;
+        }
+        left -= 1;
     }
-    ended(t, line, storage, out).over()
 }

@@ -1,13 +1,30 @@
-// What the program holds from one line to the next.
+// What the program holds from one line to the next, and what a line leaves.
 use table::end::End;
 use table::end::Role;
 use table::storage;
+
+pub type Storage = [u8; storage::LENGTH];
 
 // The end, how much of the storage its calls get, and the length of the last answer.
 pub struct World {
     pub end: End,
     pub lend: usize,
     pub said: usize,
+}
+
+// The end that a line left, and the length of its answer.
+pub struct Said {
+    pub end: End,
+    pub length: usize,
+}
+
+impl Said {
+    pub(crate) fn of(e: End, length: usize) -> Said {
+        Said {
+            end: e,
+            length: length,
+        }
+    }
 }
 
 impl World {
@@ -20,28 +37,13 @@ impl World {
         }
     }
 
-    // The end that a line left, and the length of its answer.
-    pub(crate) fn answered(self, e: End, said: usize) -> World {
-        World {
-            end: e,
-            lend: self.lend,
-            said: said,
-        }
-    }
-
-    // Another part of the storage for the calls from here on.
-    pub(crate) fn lending(self, lend: usize, said: usize) -> World {
-        let e = self.end;
+    // After a line.
+    pub(crate) fn after(s: Said, lend: usize) -> World {
+        let e = s.end;
         World {
             end: e,
             lend: lend,
-            said: said,
+            said: s.length,
         }
-    }
-
-    // Nothing changed; the length of the answer alone.
-    pub(crate) fn unchanged(self, said: usize) -> World {
-        let e = self.end;
-        self.answered(e, said)
     }
 }

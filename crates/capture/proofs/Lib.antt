@@ -1,4 +1,3 @@
-pub mod Wrote
 pub mod Frames
 pub mod Reports
 pub mod Worked

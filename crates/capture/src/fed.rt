@@ -1,102 +1,70 @@
 // One line of the input: judged, and fed to the server if it is a frame.
 ghost use mathlib.Core.Path.{_≡_};
-ghost use Prim.Native.Nat.{_+_, _*_, _≤_};
-ghost use lib.ListN.{length};
-ghost use lib.Seq.{paste};
-ghost use Rattle.text.specs.Hex.{fromHex};
-ghost use Rattle.capture.specs.Feed.{inputLimit, frameLimit, isFrame, taken, frameText, lineText, endAfter};
-ghost use Rattle.capture.specs.FeedParts.{rowLimit, shownOf, fedOf};
-use crate::words;
+ghost use Rattle.capture.specs.Feed.{isFrame, unreadFor};
+ghost use Rattle.capture.specs.FeedParts.{frameFed, lineFed};
+use report::Line;
+use session::record::Session;
 use table::end::End;
+use table::storage;
 use wire::header::Header;
 
-// Where the report goes on, and the server after the line.
+// What the report tells of a line, and the server after it.
 pub struct Fed {
-    pub at: usize,
+    pub line: Line,
     pub end: End,
 }
 
-// What the report says of a frame, and the server after it.
-struct Shown {
-    answer: u8,
-    unread: u32,
-    end: End,
-}
+// The longest frame: a header and the longest payload.
+const FRAME: usize = Header::LEN + (Session::PAYLOAD as usize);
 
-// The frame goes once to take, and unread packets are counted after it.
-fn take_frame(e: End, frame: &[u8], storage: &mut [u8; 32768]) -> Shown
-    ensures { λ r. ⌜ r ≡ shownOf e (now (frame .entry)) ⌝ }
+// The same as text: two digits a byte.
+const DIGITS: usize = 2 * FRAME;
+
+// The unread packets of the frame's session.
+fn unread_for(e: End, frame: &[u8]) -> u32
+    ensures { λ r. ⌜ r ≡ unreadFor e (now (frame .entry)) ⌝ }
 {
-    let t = smp::take::take(e, frame, storage);
-    let after = t.end;
     if frame.len() < Header::LEN {
-        return Shown {
-            answer: t.number,
-            unread: 0,
-            end: after,
-        };
+        return 0;
     }
     let h = Header::read(frame);
-    Shown {
-        answer: t.number,
-        unread: after.unread_of(h.sid),
-        end: after,
-    }
+    e.unread_of(h.sid)
 }
 
-// A line that is a frame.
-fn frame_line(
-    out: &mut [u8],
-    at: usize,
-    n: u32,
-    e: End,
-    line: &[u8],
-    storage: &mut [u8; 32768],
-) -> Fed
-    requires { ⌜ (n ≤ inputLimit) × (at + rowLimit ≤ length (now out)) × (length (now line) ≤ 2 * frameLimit) ⌝ }
-    ensures { λ _. ⌜ now (out .exit) ≡ paste (now (out .entry)) at (frameText n e (fromHex (now (line .entry)))) (length (frameText n e (fromHex (now (line .entry))))) ⌝ }
-    ensures { λ r. ⌜ r ≡ fedOf at (frameText n e (fromHex (now (line .entry)))) (taken e (fromHex (now (line .entry))) .end) ⌝ }
-    ensures { λ _. ⌜ length (frameText n e (fromHex (now (line .entry)))) ≤ rowLimit ⌝ }
+// A frame. It goes once to take, and unread packets are counted after it.
+fn frame_fed(e: End, frame: &[u8], storage: &mut [u8; storage::LENGTH]) -> Fed
+    ensures { λ r. ⌜ r ≡ frameFed e (now (frame .entry)) ⌝ }
 {
-    let mut frame = [0u8; 528];
-    let k = text::hex::decode(line, &mut frame);
-    let s = take_frame(e, &frame[..k], storage);
-    let after = s.end;
+    let t = take::take(e, frame, storage);
+    let after = t.end;
+    let u = unread_for(after, frame);
     Fed {
-        at: words::frame_row(out, at, n, s.answer, &frame[..k], s.unread),
+        line: Line::of(t.number, frame, u),
         end: after,
     }
 }
 
-// Lower-case hexadecimal of at most 528 bytes.
+// Lower-case hexadecimal, of no more bytes than a frame has.
 fn is_frame(line: &[u8]) -> bool
     ensures { λ r. ⌜ r ≡ isFrame (now (line .entry)) ⌝ }
 {
-    if 1056 < line.len() {
+    if DIGITS < line.len() {
         return false;
     }
     text::hex::is_hex(line)
 }
 
 // Any line.
-pub fn one_line(
-    out: &mut [u8],
-    at: usize,
-    n: u32,
-    e: End,
-    line: &[u8],
-    storage: &mut [u8; 32768],
-) -> Fed
-    requires { ⌜ (n ≤ inputLimit) × (at + rowLimit ≤ length (now out)) ⌝ }
-    ensures { λ _. ⌜ now (out .exit) ≡ paste (now (out .entry)) at (lineText n e (now (line .entry))) (length (lineText n e (now (line .entry)))) ⌝ }
-    ensures { λ r. ⌜ r ≡ fedOf at (lineText n e (now (line .entry))) (endAfter e (now (line .entry))) ⌝ }
-    ensures { λ _. ⌜ length (lineText n e (now (line .entry))) ≤ rowLimit ⌝ }
+pub fn one_line(e: End, line: &[u8], storage: &mut [u8; storage::LENGTH]) -> Fed
+    ensures { λ r. ⌜ r ≡ lineFed e (now (line .entry)) ⌝ }
 {
-    if is_frame(line) {
-        return frame_line(out, at, n, e, line, storage);
+    if !is_frame(line) {
+        return Fed {
+            line: Line::bad(),
+            end: e,
+        };
     }
-    Fed {
-        at: words::bad_row(out, at, n),
-        end: e,
-    }
+    let mut frame = [0u8; FRAME];
+    let k = text::hex::decode(line, &mut frame);
+    frame_fed(e, &frame[..k], storage)
 }

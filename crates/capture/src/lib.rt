@@ -1,17 +1,17 @@
 // A capture of frames, line by line, fed to one fresh server: from the input's bytes to the report's bytes. No input and no output here.
 ghost use mathlib.Core.Path.{_≡_};
-ghost use Prim.Native.Nat.{_≤_};
+ghost use Prim.Native.Nat.{_-_, _≤_};
 ghost use lib.ListN.{length};
-ghost use Rattle.wire.specs.Packet.{onto};
+ghost use Rattle.buffer.specs.Onto.{onto};
 ghost use Rattle.table.specs.declared.end.Role as role';
 ghost use Rattle.table.specs.End.{startOf};
 ghost use Rattle.text.specs.Lines.{lines};
 ghost use Rattle.capture.specs.Feed.{inputLimit, report, feedText};
 use table::end::End;
 use table::end::Role;
+use table::storage;
 
 mod fed;
-mod words;
 
 // At most 65,536 bytes of the input (more is dropped).
 pub const INPUT: usize = 65536;
@@ -27,20 +27,28 @@ fn feed_lines(text: &[u8], out: &mut [u8; REPORT]) -> usize
     ensures { λ _. ⌜ now (out .exit) ≡ onto (report 1 (startOf role'.Role.Server) (lines (now (text .entry)))) (now (out .entry)) ⌝ }
     ensures { λ r. ⌜ r ≡ length (report 1 (startOf role'.Role.Server) (lines (now (text .entry)))) ⌝ }
 {
-    let mut storage = [0; 32768];
+    let mut storage = [0; storage::LENGTH];
     let mut e = End::start(Role::Server);
     let mut n: u32 = 1;
     let mut at = 0;
     let mut from = 0;
     while from < text.len() {
         let stop = text::line::end_of(text, from);
-        let f = fed::one_line(out, at, n, e, &text[from..stop], &mut storage);
+        let f = fed::one_line(e, &text[from..stop], &mut storage);
+        let l = f.line;
+        at = report::line_row(out, at, n, l);
         e = f.end;
-        at = f.at;
         n += 1;
         from = stop + 1;
     }
-    words::last_row(out, at, e)
+    report::last_row(out, at, e.up, e.held())
+}
+
+// How many of so many bytes count.
+fn counted(n: usize) -> usize
+    ensures { λ r. ⌜ r ≡ n - (n - inputLimit) ⌝ }
+{
+    if n < INPUT { n } else { INPUT }
 }
 
 // The whole report, at the front of the buffer. Later bytes are untouched.
@@ -48,8 +56,6 @@ pub fn feed(input: &[u8], out: &mut [u8; REPORT]) -> usize
     ensures { λ _. ⌜ now (out .exit) ≡ onto (feedText (now (input .entry))) (now (out .entry)) ⌝ }
     ensures { λ r. ⌜ r ≡ length (feedText (now (input .entry))) ⌝ }
 {
-    if input.len() < INPUT {
-        return feed_lines(input, out);
-    }
-    feed_lines(&input[..INPUT], out)
+    let n = counted(input.len());
+    feed_lines(&input[..n], out)
 }

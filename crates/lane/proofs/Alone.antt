@@ -95,7 +95,8 @@ module _ {slots n : ℕ} {W A : World} (i : WInv slots W) (s : Sim slots n W A) 
   -- its SYN stands at the head of the channel where it does so among others
   pub alone-syn : (l : List Item) → W .chan server ≡ syn n ∷ l → (r : List Item) × (A .chan server ≡ syn 0 ∷ r)
   alone-syn l e = syn-first (A .held) (A .born) (A .known) (A .chan server)
-      (s .bounds server ∙ reached-no n (W .known) (omega (arith, syn-known i n l e))) (s .bounds client ∙ reached-yes n (W .born) (syn-born i n l e)) (s .inv .line)
+      (s .bounds server ∙ reached-no n (W .known) (omega (arith, syn-known i n l e))) (s .bounds client ∙ reached-yes n (W .born) (syn-born i n l e))
+      (s .inv .line)
 
   -- so does its packet, the same one
   pub alone-packet : (k : Side) (p : Packet) (l : List Item) → W .chan k ≡ pkt n p ∷ l → (r : List Item) × (A .chan k ≡ pkt 0 p ∷ r)

@@ -39,7 +39,8 @@ runs n (turn k j c ∷ h) W = by (eq? j n) (runs n h (own W k j c))
           lane = r .lane ∙ ap (λ (L : Lane). final L (stepsOf n h)) v;
         })
     by (differ q e) r = rw e
-        (subst (λ (L : Lane). Runs L (ends (own W k j c) h .lanes n) (stepsOf n h) (eventsOf n (own W k j c) h)) (others-still W k j c n (λ (r : n ≡ j). q (sym r))) r)
+        (subst (λ (L : Lane). Runs L (ends (own W k j c) h .lanes n) (stepsOf n h) (eventsOf n (own W k j c) h))
+        (others-still W k j c n (λ (r : n ≡ j). q (sym r))) r)
 
 -- THEOREM (isolation): the events of session n are those of its own steps on its lane
 pub isolated : (n : ℕ) (h : List Act) (W : World) → eventsOf n W h ≡ trace (W .lanes n) (stepsOf n h)
@@ -52,5 +53,6 @@ isolated-lane n h W = runs n h W .lane
 pub events-first-part : (n : ℕ) (h : List Act) (k : Side) → FirstPart (reads k (eventsOf n dawn h)) (accepted (other k) (eventsOf n dawn h))
 events-first-part n h k = rw (isolated n h dawn) (reads-first-part (stepsOf n h) k)
 
-pub events-told-whole : (n : ℕ) (h : List Act) (k : Side) → Some (Tells k) (eventsOf n dawn h) → reads k (eventsOf n dawn h) ≡ accepted (other k) (eventsOf n dawn h)
+pub events-told-whole : (n : ℕ) (h : List Act) (k : Side) → Some (Tells k) (eventsOf n dawn h)
+    → reads k (eventsOf n dawn h) ≡ accepted (other k) (eventsOf n dawn h)
 events-told-whole n h k t = rw (isolated n h dawn) (told-whole (stepsOf n h) k (rw (isolated n h dawn) at t))

@@ -6,7 +6,8 @@ use mathlib.Core.Bool.{Bool, true, false}
 use mathlib.Core.List.{List, [], _∷_, _++_, append-assoc, append-nil}
 use lib.ListN.{length, length-append}
 use lib.Dec.{T, nleb→lt, leb}
-use Rattle.lane.proofs.Half.{Bytes, Packet, St, est, fs, fr, gone, Body, sOf, gOf, Out, Room, refuse, send, sent, read, readOne, readLast, later, close, ending}
+use Rattle.lane.proofs.Half.{Bytes, Packet, St, est, fs, fr, gone, Body, sOf, gOf, Out, Room, refuse, send, sent, read, readOne, readLast}
+use Rattle.lane.proofs.Half.{later, close, ending}
 use Rattle.lane.proofs.Outcomes.{send-all, read-all, close-all}
 use Rattle.lane.proofs.Lane.{Call, put, get, shut, push, took, gave, deliver}
 use Rattle.lane.proofs.Inv.{pays, pays-append, Flow, flow-push, closes, ended, keeps, Gate, News, Dir, Inv, arrived, silent, count}
@@ -118,7 +119,8 @@ module _ {sy : St} {Y : Body} {xy yx : List Packet} where
     inv = record {
       fitX = i .fitX;
       fitY = i .fitY;
-      fwd = dir-push est (X .acc) (gOf (later X p u)) _ refl (sym (append-nil (X .acc))) (rw length-append (omega arith)) (λ w le. (refl, le, (tt, refl))) (i .fwd);
+      fwd = dir-push est (X .acc) (gOf (later X p u)) _ refl (sym (append-nil (X .acc))) (rw length-append (omega arith)) (λ w le. (refl, le, (tt, refl)))
+          (i .fwd);
       bwd = dir-read (rw h at (i .bwd));
     };
     acc = sym (append-nil (X .acc));

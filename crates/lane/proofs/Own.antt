@@ -63,7 +63,8 @@ nosyn-push n (some p) (pkt j r ∷ l) h = nosyn-push n (some p) l h
 -- ---- the head goes, if the call is a take
 
 -- what holds of any channel and of a channel less its head packet holds after the call
-after-all : (P : List Item → Type 0) (c : Call) (n : ℕ) (l : List Item) → Ready c n l → P l → ((p : Packet) (r : List Item) → P (pkt n p ∷ r) → P r) → P (after c l)
+after-all : (P : List Item → Type 0) (c : Call) (n : ℕ) (l : List Item) → Ready c n l → P l → ((p : Packet) (r : List Item) → P (pkt n p ∷ r) → P r)
+    → P (after c l)
 after-all P (put p R) n l r h f = h
 after-all P (get R) n l r h f = h
 after-all P (shut R) n l r h f = h
@@ -163,7 +164,8 @@ own-inv {slots} {W} i k n c t r = let X = L′ i n c k in record {
   queue = queue′ i n c k r;
   unborn = lane-all (λ (j : ℕ) (X : Lane). W .born ≤ j → X ≡ begin) n X (W .lanes) (λ (h : W .born ≤ n). absurd (omega (arith, listed-born i k n t)))
       (λ (j : ℕ) (_ : j ≢ n). i .unborn j);
-  unknown = lane-all (λ (j : ℕ) (X : Lane). W .known ≤ j → (X .ss ≡ est) × (X .S ≡ fresh)) n X (W .lanes) (unknown′ i n c k t) (λ (j : ℕ) (_ : j ≢ n). i .unknown j);
+  unknown = lane-all (λ (j : ℕ) (X : Lane). W .known ≤ j → (X .ss ≡ est) × (X .S ≡ fresh)) n X (W .lanes) (unknown′ i n c k t)
+      (λ (j : ℕ) (_ : j ≢ n). i .unknown j);
   line = line′ i n c k t r;
   noSyn = noSyn′ i n c k r;
   tables = tables′ i n c k t;

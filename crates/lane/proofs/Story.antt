@@ -9,8 +9,8 @@ use lib.ListN.{length}
 use lib.Dec.{T}
 use Rattle.lane.specs.Side.{Side, client, server, other}
 use Rattle.lane.proofs.Half.{Bytes, Packet, St, Body, seqnumOf, wndwOf, est, sOf}
-use Rattle.lane.proofs.Lane.{Call, put, get, shut, deliver, move, Lane, begin, stOf, half, toward, moved, land, Step, next, final, trace, took, gave, onlyAt}
-use Rattle.lane.proofs.Lane.{accepted, reads}
+use Rattle.lane.proofs.Lane.{Call, put, get, shut, deliver, move, Lane, begin, stOf, half, toward, moved, land, Step, next, final, trace, took}
+use Rattle.lane.proofs.Lane.{gave, onlyAt, accepted, reads}
 use Rattle.lane.proofs.Inv.{pays, ended, Inv, Good, swap, start, Ranges, ranges, count}
 use Rattle.lane.proofs.Calls.{Fine, refused, send-fine, read-fine, close-fine}
 use Rattle.lane.proofs.Takes.{InRange, in-range, passed, passes, Taken, take-taken}

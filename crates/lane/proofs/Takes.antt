@@ -8,8 +8,8 @@ use mathlib.Core.List.{List, [], _∷_, _++_, append-assoc, append-nil, cons≢n
 use mathlib.Core.Option.{none}
 use lib.ListN.{length, length-append}
 use lib.Dec.{T, leb, eqb, le→leb, eqb→eq, eqb-refl, not-T}
-use Rattle.lane.proofs.Half.{Bytes, Packet, dat, ack, fin, St, est, fs, fr, gone, Body, sOf, gOf, rOf, Out, take, refuse, winOk, seqOk, nextOk, checked, plain}
-use Rattle.lane.proofs.Half.{stored, raised, seqnumOf, wndwOf}
+use Rattle.lane.proofs.Half.{Bytes, Packet, dat, ack, fin, St, est, fs, fr, gone, Body, sOf, gOf, rOf, Out, take, refuse, winOk, seqOk, nextOk}
+use Rattle.lane.proofs.Half.{checked, plain, stored, raised, seqnumOf, wndwOf}
 use Rattle.lane.proofs.Lane.{deliver}
 use Rattle.lane.proofs.Inv.{pays, Flow, flow-top, closes, ended, Dir, Inv, arrived, silent, count}
 use Rattle.lane.proofs.Calls.{Fine}
@@ -148,10 +148,18 @@ module _ {sy : St} {Y : Body} {xy yx : List Packet} where
   passed-taken est (fin q v) X i = let h = in-range est (fin q v) X i .1 in
       plain-taken est fr X (raised X v) refl refl (λ t. t)
       (record { fitX = omega arith; fitY = i .fitY; fwd = silent (i .fwd) refl (omega arith) tt; bwd = dir-end q v (i .bwd) })
-  passed-taken fs (dat q v p) X i = plain-taken fs fs X X refl refl (λ t. t) (record { fitX = i .fitX; fitY = i .fitY; fwd = i .fwd; bwd = skip-dat q v p (i .bwd) })
-  passed-taken fs (ack q v) X i = plain-taken fs fs X X refl refl (λ t. t) (record { fitX = i .fitX; fitY = i .fitY; fwd = i .fwd; bwd = skip-ack q v (i .bwd) })
+  passed-taken fs (dat q v p) X i = plain-taken fs fs X X refl refl (λ t. t)
+      (record { fitX = i .fitX; fitY = i .fitY; fwd = i .fwd; bwd = skip-dat q v p (i .bwd) })
+  passed-taken fs (ack q v) X i = plain-taken fs fs X X refl refl (λ t. t)
+      (record { fitX = i .fitX; fitY = i .fitY; fwd = i .fwd; bwd = skip-ack q v (i .bwd) })
   passed-taken fs (fin q v) X i =
-      plain-taken fs gone X X refl refl (λ t. t) (record { fitX = i .fitX; fitY = i .fitY; fwd = silent (i .fwd) refl (omega arith) tt; bwd = skip-fin q v (i .bwd) })
+      plain-taken fs gone X X refl refl (λ t. t) (record {
+        fitX = i .fitX;
+        fitY = i .fitY;
+        fwd = silent (i .fwd) refl (omega arith) tt;
+        bwd =
+            skip-fin q v (i .bwd);
+      })
   passed-taken fr p X i = absurd (in-range fr p X i .0)
   passed-taken gone p X i = absurd (in-range gone p X i .0)
 

@@ -9,7 +9,8 @@ use mathlib.Core.List.{List, [], _∷_, _++_, append-assoc, append-nil, append-c
 use lib.Dec.{T, ltb}
 use Rattle.lane.specs.Side.{Side, client, server, other}
 use Rattle.lane.proofs.Half.{Bytes, Packet, St, est, fs, fr, gone, Body, Out, Room, unless, unless-all, cramped, read, readE, readR, readOne, readLast}
-use Rattle.lane.proofs.Lane.{Call, put, get, shut, deliver, Lane, begin, stOf, half, toward, moved, land, Event, Step, next, final, trace, accepted, reads}
+use Rattle.lane.proofs.Lane.{Call, put, get, shut, deliver, Lane, begin, stOf, half, toward, moved, land, Event, Step, next, final, trace}
+use Rattle.lane.proofs.Lane.{accepted, reads}
 use Rattle.lane.proofs.Inv.{pays, closes, Inv, Good, start}
 use Rattle.lane.proofs.Story.{seen, moved-fine, step-good, got-step, first-part, accepted-is, reads-is}
 

@@ -9,36 +9,40 @@ use mathlib.Core.List.{List, [], _∷_, _++_}
 use lib.ListN.{length, getD}
 use lib.Seq.{getD-set-same}
 use lib.Dec.{eqb, ltb}
-use Rattle.first.specs.Cases.{Case, if, first, done}
+use Rattle.cases.specs.Cases.{Case, if, first, done}
 use Rattle.wire.specs.declared.header.Header.{Header}
 use Rattle.wire.specs.declared.kind.Flags.{Flags}
 use Rattle.wire.specs.declared.kind.Flags.the-variants.{One, Wrong}
-use Rattle.wire.specs.Packet.{headerLength, readHeader, flagsOf, packetBytes, headerBytes, onto}
+use Rattle.wire.specs.Packet.{headerLength, readHeader, flagsOf, packetBytes, headerBytes}
+use Rattle.buffer.specs.Onto.{onto}
 use Rattle.session.specs.declared.record.Session.{Session}
 use Rattle.session.specs.Record.{payloadLimit, inUse, free}
-use Rattle.session.specs.Calls.{sentOn, readOn, closedOn}
-use Rattle.session.specs.Taken.{cellOf}
+use Rattle.session.specs.Changes.{sentOn, readOn, closedOn}
+use Rattle.effect.specs.Taken.{cellOf}
 use Rattle.table.specs.declared.end.Role.{Role}
 use Rattle.table.specs.declared.end.End.{End}
 use Rattle.table.specs.Slots.{holds, sessionOf, slotOf, full, smallestSid}
 use Rattle.table.specs.Storage.{storageLength}
 use Rattle.table.specs.End.{changedOf}
 use Rattle.table.proofs.Slots.{held, within, session-at, changed-at}
-use Rattle.smp.specs.declared.open.Opened.{Opened}
-use Rattle.smp.specs.declared.send.Sent.{Sent}
-use Rattle.smp.specs.declared.read.Got.{Got}
-use Rattle.smp.specs.declared.close.Closed.{Closed}
-use Rattle.smp.specs.declared.take.Taken.{Taken}
-use Rattle.smp.specs.Calling.{base, good, called, calling, shortStorage}
-use Rattle.smp.specs.Open.{openNumber, openCases, openedEnd, openDone, openRefused, synHeader, openOf, openPacket, OpenPromise}
-use Rattle.smp.specs.Send.{sendNumber, sendCases, dataHeader, sendDone, sendRefused, sendOf, sendPacket, SendPromise}
-use Rattle.smp.specs.Read.{readNumber, readCases, oldestLength, oldestIn, ackOn, readDone, readRefused, readOf, readPayload, readAck, ReadPromise}
-use Rattle.smp.specs.Close.{closeNumber, closeCases, finHeader, closeDone, closeRefused, closeOf, closePacket, ClosePromise}
-use Rattle.smp.specs.Take.{takeNumber, takeCases, packetCases, missing, takenEnd, takeDone, takeRefused, takeFault, takeAnswer, kept, takenStorage, takeOf, takeStorage, TakePromise}
+use Rattle.open.specs.declared.Opened.{Opened}
+use Rattle.send.specs.declared.Sent.{Sent}
+use Rattle.read.specs.declared.Got.{Got}
+use Rattle.close.specs.declared.Closed.{Closed}
+use Rattle.take.specs.declared.Taken.{Taken}
+use Rattle.table.specs.Limits.{base}
+use Rattle.table.specs.Well.{wellMade}
+use Rattle.calling.specs.Calling.{called, calling, shortStorage}
+use Rattle.open.specs.Open.{openNumber, openCases, openedEnd, openDone, openRefused, synHeader, openOf, openPacket, OpenPromise}
+use Rattle.send.specs.Send.{sendNumber, sendCases, dataHeader, sendDone, sendRefused, sendOf, sendPacket, SendPromise}
+use Rattle.read.specs.Read.{readNumber, readCases, oldestLength, oldestIn, ackOn, readDone, readRefused, readOf, readPayload, readAck, ReadPromise}
+use Rattle.close.specs.Close.{closeNumber, closeCases, finHeader, closeDone, closeRefused, closeOf, closePacket, ClosePromise}
+use Rattle.judge.specs.Number.{takeNumber, takeCases, packetCases, missing}
+use Rattle.take.specs.Take.{takenEnd, takeDone, takeRefused, takeFault, takeAnswer, kept, takenStorage, takeOf, takeStorage, TakePromise}
 
 -- the two ends agree on what a call for that SID may see
 pub record Alike (sid : ℕ) (e e' : End) : Type 0 where
-  pub good : good base e ≡ good base e'
+  pub made : wellMade base e ≡ wellMade base e'
   pub up : e .up ≡ e' .up
   pub session : sessionOf sid (e .slots) ≡ sessionOf sid (e' .slots)
 
@@ -58,7 +62,8 @@ equal n n' a a' b b' p p' q s t = p ∙ ap (λ m. done m a b) q ∙ ap (λ c. do
 
 -- ---- the session's own slot afterwards
 
-own : (sid : ℕ) (f : Session → Session) (e : End) → holds sid (e .slots) ≡ true → getD (changedOf sid f e .slots) (slotOf sid (e .slots)) free ≡ f (sessionOf sid (e .slots))
+own : (sid : ℕ) (f : Session → Session) (e : End) → holds sid (e .slots) ≡ true
+    → getD (changedOf sid f e .slots) (slotOf sid (e .slots)) free ≡ f (sessionOf sid (e .slots))
 own sid f e h =
     ap (λ (l : List Session). getD l (slotOf sid (e .slots)) free) (changed-at sid f (e .slots))
     ∙ getD-set-same (e .slots) (slotOf sid (e .slots)) (f (sessionOf sid (e .slots))) free (within sid (e .slots) h)
@@ -68,11 +73,12 @@ module _ {sid : ℕ} {e e' : End} (same : Alike sid e e') where
   holds-alike = sym (held sid (e .slots)) ∙ ap (λ (x : Session). inUse (x .state)) (same .session) ∙ held sid (e' .slots)
 
   -- the number, for any cases on one session
-  number-alike : (cs : Session → List Case) → first (calling base e sid ++ cs (sessionOf sid (e .slots))) ≡ first (calling base e' sid ++ cs (sessionOf sid (e' .slots)))
+  number-alike : (cs : Session → List Case)
+      → first (calling base e sid ++ cs (sessionOf sid (e .slots))) ≡ first (calling base e' sid ++ cs (sessionOf sid (e' .slots)))
   number-alike cs =
-      ap (λ (g : Bool). first (called g (e .up) (holds sid (e .slots)) ++ cs (sessionOf sid (e .slots)))) (same .good)
-      ∙ ap (λ (u : Bool). first (called (good base e') u (holds sid (e .slots)) ++ cs (sessionOf sid (e .slots)))) (same .up)
-      ∙ ap (λ (h : Bool). first (called (good base e') (e' .up) h ++ cs (sessionOf sid (e .slots)))) holds-alike
+      ap (λ (g : Bool). first (called g (e .up) (holds sid (e .slots)) ++ cs (sessionOf sid (e .slots)))) (same .made)
+      ∙ ap (λ (u : Bool). first (called (wellMade base e') u (holds sid (e .slots)) ++ cs (sessionOf sid (e .slots)))) (same .up)
+      ∙ ap (λ (h : Bool). first (called (wellMade base e') (e' .up) h ++ cs (sessionOf sid (e .slots)))) holds-alike
       ∙ ap (λ (x : Session). first (calling base e' sid ++ cs x)) (same .session)
 
   -- the slot afterwards, where the session is held
@@ -87,7 +93,8 @@ module _ {sid : ℕ} {e e' : End} (same : Alike sid e e') where
       (ap (λ d. getD (d .slots) (slotOf sid (e .slots)) free) y ∙ sym (session-at sid (e .slots)) ∙ same .session
       ∙ session-at sid (e' .slots) ∙ sym (ap (λ d. getD (d .slots) (slotOf sid (e' .slots)) free) y'))
 
-  pub send-alike : {payload lent exit exit' : List ℕ} {r r' : Sent} → SendPromise e sid payload lent r exit → SendPromise e' sid payload lent r' exit' → holds sid (e .slots) ≡ true
+  pub send-alike : {payload lent exit exit' : List ℕ} {r r' : Sent} → SendPromise e sid payload lent r exit → SendPromise e' sid payload lent r' exit'
+      → holds sid (e .slots) ≡ true
       → (r .number ≡ r' .number) × (r .length ≡ r' .length) × (exit ≡ exit')
       × (getD (r .end .slots) (slotOf sid (e .slots)) free ≡ getD (r' .end .slots) (slotOf sid (e' .slots)) free)
   unfolding sendOf sendPacket sendNumber
@@ -101,14 +108,16 @@ module _ {sid : ℕ} {e e' : End} (same : Alike sid e e') where
       let b = sendRefused n e in
       let b' = sendRefused n' e' in (
         equal n n' 0 0 n n' (part (λ (r : Sent). r .number) n a b (p .answer)) (part (λ (r : Sent). r .number) n' a' b' (p' .answer)) q refl q,
-        equal n n' (headerLength + len) (headerLength + len) 0 0 (part (λ (r : Sent). r .length) n a b (p .answer)) (part (λ (r : Sent). r .length) n' a' b' (p' .answer)) q refl refl,
+        equal n n' (headerLength + len) (headerLength + len) 0 0 (part (λ (r : Sent). r .length) n a b (p .answer))
+            (part (λ (r : Sent). r .length) n' a' b' (p' .answer)) q refl refl,
         p .packet
             ∙ ap (λ o. onto o lent) (equal n n' _ _ [] [] refl refl q (ap (λ x. packetBytes (dataHeader x len) payload) (same .session)) refl)
             ∙ sym (p' .packet),
         after (λ (r : Sent). r .end) sentOn n n' a b a' b' (p .answer) (p' .answer) q refl refl refl refl h,
       )
 
-  pub close-alike : {lent exit exit' : List ℕ} {r r' : Closed} → ClosePromise e sid lent r exit → ClosePromise e' sid lent r' exit' → holds sid (e .slots) ≡ true
+  pub close-alike : {lent exit exit' : List ℕ} {r r' : Closed} → ClosePromise e sid lent r exit → ClosePromise e' sid lent r' exit'
+      → holds sid (e .slots) ≡ true
       → (r .number ≡ r' .number) × (r .length ≡ r' .length) × (exit ≡ exit')
       × (getD (r .end .slots) (slotOf sid (e .slots)) free ≡ getD (r' .end .slots) (slotOf sid (e' .slots)) free)
   unfolding closeOf closePacket closeNumber
@@ -121,14 +130,16 @@ module _ {sid : ℕ} {e e' : End} (same : Alike sid e e') where
       let b = closeRefused n e in
       let b' = closeRefused n' e' in (
         equal n n' 0 0 n n' (part (λ (r : Closed). r .number) n a b (p .answer)) (part (λ (r : Closed). r .number) n' a' b' (p' .answer)) q refl q,
-        equal n n' headerLength headerLength 0 0 (part (λ (r : Closed). r .length) n a b (p .answer)) (part (λ (r : Closed). r .length) n' a' b' (p' .answer)) q refl refl,
+        equal n n' headerLength headerLength 0 0 (part (λ (r : Closed). r .length) n a b (p .answer))
+            (part (λ (r : Closed). r .length) n' a' b' (p' .answer)) q refl refl,
         p .packet ∙ ap (λ o. onto o lent) (equal n n' _ _ [] [] refl refl q (ap (λ x. headerBytes (finHeader x)) (same .session)) refl) ∙ sym (p' .packet),
         after (λ (r : Closed). r .end) closedOn n n' a b a' b' (p .answer) (p' .answer) q refl refl refl refl h,
       )
 
   pub read-alike : {storage lent lentAck exit exitAck exit' exitAck' : List ℕ} {r r' : Got} → ReadPromise e sid storage lent lentAck r exit exitAck
-      → ReadPromise e' sid storage lent lentAck r' exit' exitAck' → holds sid (e .slots) ≡ true → length (e .slots) ≡ length (e' .slots) → slotOf sid (e .slots) ≡ slotOf sid (e' .slots)
-      → (r .number ≡ r' .number) × (r .payload ≡ r' .payload) × (r .ack ≡ r' .ack) × (exit ≡ exit') × (exitAck ≡ exitAck')
+      → ReadPromise e' sid storage lent lentAck r' exit' exitAck' → holds sid (e .slots) ≡ true → length (e .slots) ≡ length (e' .slots)
+      → slotOf sid (e .slots) ≡ slotOf sid (e' .slots)
+      → (r .number ≡ r' .number) × (r .«payload_length» ≡ r' .«payload_length») × (r .«ack_length» ≡ r' .«ack_length») × (exit ≡ exit') × (exitAck ≡ exitAck')
       × (getD (r .end .slots) (slotOf sid (e .slots)) free ≡ getD (r' .end .slots) (slotOf sid (e' .slots)) free)
   unfolding readOf readPayload readAck readNumber
   read-alike {storage} {lent} {lentAck} p p' h long slot =
@@ -136,7 +147,8 @@ module _ {sid : ℕ} {e e' : End} (same : Alike sid e e') where
       let n' = readNumber base e' sid (length lent) (length lentAck) (length storage) in
       let x = sessionOf sid (e .slots) in
       let x' = sessionOf sid (e' .slots) in
-      let s : shortStorage base e (length storage) ≡ shortStorage base e' (length storage) = ap (λ k. ltb (length storage) (storageLength payloadLimit k)) long in
+      let s : shortStorage base e (length storage) ≡ shortStorage base e' (length storage) =
+      ap (λ k. ltb (length storage) (storageLength payloadLimit k)) long in
       let q : n ≡ n' =
       number-alike (λ y. readCases y (length lent) (length lentAck) (shortStorage base e (length storage)))
       ∙ ap (λ t. first (calling base e' sid ++ readCases x' (length lent) (length lentAck) t)) s in
@@ -145,10 +157,13 @@ module _ {sid : ℕ} {e e' : End} (same : Alike sid e e') where
       let b = readRefused n e in
       let b' = readRefused n' e' in (
         equal n n' 0 0 n n' (part (λ (r : Got). r .number) n a b (p .answer)) (part (λ (r : Got). r .number) n' a' b' (p' .answer)) q refl q,
-        equal n n' _ _ 0 0 (part (λ (r : Got). r .payload) n a b (p .answer)) (part (λ (r : Got). r .payload) n' a' b' (p' .answer)) q (ap oldestLength (same .session)) refl,
-        equal n n' _ _ 0 0 (part (λ (r : Got). r .ack) n a b (p .answer)) (part (λ (r : Got). r .ack) n' a' b' (p' .answer)) q (ap (λ y. length (ackOn y)) (same .session)) refl,
+        equal n n' _ _ 0 0 (part (λ (r : Got). r .«payload_length») n a b (p .answer)) (part (λ (r : Got). r .«payload_length») n' a' b' (p' .answer)) q
+            (ap oldestLength (same .session)) refl,
+        equal n n' _ _ 0 0 (part (λ (r : Got). r .«ack_length») n a b (p .answer)) (part (λ (r : Got). r .«ack_length») n' a' b' (p' .answer)) q
+            (ap (λ y. length (ackOn y)) (same .session)) refl,
         p .payload
-            ∙ ap (λ o. onto o lent) (equal n n' _ _ [] [] refl refl q (ap (λ i. oldestIn base i x storage) slot ∙ ap (λ y. oldestIn base (slotOf sid (e' .slots)) y storage) (same .session)) refl)
+            ∙ ap (λ o. onto o lent) (equal n n' _ _ [] [] refl refl q (ap (λ i. oldestIn base i x storage) slot
+            ∙ ap (λ y. oldestIn base (slotOf sid (e' .slots)) y storage) (same .session)) refl)
             ∙ sym (p' .payload),
         p .ack ∙ ap (λ o. onto o lentAck) (equal n n' _ _ [] [] refl refl q (ap ackOn (same .session)) refl) ∙ sym (p' .ack),
         after (λ (r : Got). r .end) readOn n n' a b a' b' (p .answer) (p' .answer) q refl refl refl refl h,
@@ -157,7 +172,8 @@ module _ {sid : ℕ} {e e' : End} (same : Alike sid e e') where
 -- ---- open: role, whether a slot is free, and the smallest SID not in the table
 
 pub open-alike : {e e' : End} {lent exit exit' : List ℕ} {r r' : Opened} → OpenPromise e lent r exit → OpenPromise e' lent r' exit'
-    → good base e ≡ good base e' → e .up ≡ e' .up → e .role ≡ e' .role → full (e .slots) ≡ full (e' .slots) → smallestSid (e .slots) ≡ smallestSid (e' .slots)
+    → wellMade base e ≡ wellMade base e' → e .up ≡ e' .up → e .role ≡ e' .role → full (e .slots) ≡ full (e' .slots)
+    → smallestSid (e .slots) ≡ smallestSid (e' .slots)
     → (r .number ≡ r' .number) × (r .sid ≡ r' .sid) × (r .length ≡ r' .length) × (exit ≡ exit')
 unfolding openOf openPacket openNumber
 open-alike {e} {e'} {lent} p p' g u ρ f s =
@@ -165,16 +181,17 @@ open-alike {e} {e'} {lent} p p' g u ρ f s =
     let n' = openNumber base e' (length lent) in
     let q : n ≡ n' =
     ap (λ t. first (openCases t (e .up) (e .role) (full (e .slots)) (length lent))) g
-    ∙ ap (λ t. first (openCases (good base e') t (e .role) (full (e .slots)) (length lent))) u
-    ∙ ap (λ t. first (openCases (good base e') (e' .up) t (full (e .slots)) (length lent))) ρ
-    ∙ ap (λ t. first (openCases (good base e') (e' .up) (e' .role) t (length lent))) f in
+    ∙ ap (λ t. first (openCases (wellMade base e') t (e .role) (full (e .slots)) (length lent))) u
+    ∙ ap (λ t. first (openCases (wellMade base e') (e' .up) t (full (e .slots)) (length lent))) ρ
+    ∙ ap (λ t. first (openCases (wellMade base e') (e' .up) (e' .role) t (length lent))) f in
     let a = openDone (smallestSid (e .slots)) (openedEnd (smallestSid (e .slots)) e) in
     let a' = openDone (smallestSid (e' .slots)) (openedEnd (smallestSid (e' .slots)) e') in
     let b = openRefused n e in
     let b' = openRefused n' e' in (
       equal n n' 0 0 n n' (part (λ (r : Opened). r .number) n a b (p .answer)) (part (λ (r : Opened). r .number) n' a' b' (p' .answer)) q refl q,
       equal n n' _ _ 0 0 (part (λ (r : Opened). r .sid) n a b (p .answer)) (part (λ (r : Opened). r .sid) n' a' b' (p' .answer)) q s refl,
-      equal n n' headerLength headerLength 0 0 (part (λ (r : Opened). r .length) n a b (p .answer)) (part (λ (r : Opened). r .length) n' a' b' (p' .answer)) q refl refl,
+      equal n n' headerLength headerLength 0 0 (part (λ (r : Opened). r .length) n a b (p .answer))
+          (part (λ (r : Opened). r .length) n' a' b' (p' .answer)) q refl refl,
       p .packet ∙ ap (λ o. onto o lent) (equal n n' _ _ [] [] refl refl q (ap (λ k. headerBytes (synHeader k)) s) refl) ∙ sym (p' .packet),
     )
 
@@ -189,8 +206,10 @@ shown : (n : ℕ) (bytes : List ℕ) (e e' : End) → values (takeAnswer n bytes
 shown n bytes e e' = by (eqb n 0) (ltb n 20)
   where
     by : (t u : Bool)
-        → values (if t (takeDone (readHeader bytes) (takenEnd (flagsOf (readHeader bytes .flags)) (readHeader bytes) e)) (if u (takeRefused n (missing bytes) e) (takeFault n e)))
-        ≡ values (if t (takeDone (readHeader bytes) (takenEnd (flagsOf (readHeader bytes .flags)) (readHeader bytes) e')) (if u (takeRefused n (missing bytes) e') (takeFault n e')))
+        → values (if t (takeDone (readHeader bytes) (takenEnd (flagsOf (readHeader bytes .flags)) (readHeader bytes) e))
+        (if u (takeRefused n (missing bytes) e) (takeFault n e)))
+        ≡ values (if t (takeDone (readHeader bytes) (takenEnd (flagsOf (readHeader bytes .flags)) (readHeader bytes) e'))
+        (if u (takeRefused n (missing bytes) e') (takeFault n e')))
     by true u = refl
     by false true = refl
     by false false = refl
@@ -203,8 +222,10 @@ stored (One k) e e' h bytes storage p q =
     ∙ ap (λ (i : ℕ). kept base (cellOf (sessionOf (h .sid) (e' .slots) .state) k) i h bytes storage) q
 stored Wrong e e' h bytes storage p q = refl
 
-pub take-alike : {e e' : End} {bytes lent exit exit' : List ℕ} {r r' : Taken} → Alike (readHeader bytes .sid) e e' → TakePromise e bytes lent r exit → TakePromise e' bytes lent r' exit'
-    → e .role ≡ e' .role → full (e .slots) ≡ full (e' .slots) → length (e .slots) ≡ length (e' .slots) → slotOf (readHeader bytes .sid) (e .slots) ≡ slotOf (readHeader bytes .sid) (e' .slots)
+pub take-alike : {e e' : End} {bytes lent exit exit' : List ℕ} {r r' : Taken} → Alike (readHeader bytes .sid) e e' → TakePromise e bytes lent r exit
+    → TakePromise e' bytes lent r' exit'
+    → e .role ≡ e' .role → full (e .slots) ≡ full (e' .slots) → length (e .slots) ≡ length (e' .slots)
+    → slotOf (readHeader bytes .sid) (e .slots) ≡ slotOf (readHeader bytes .sid) (e' .slots)
     → (values r ≡ values r') × (exit ≡ exit')
 unfolding takeOf takeStorage takeNumber
 take-alike {e} {e'} {bytes} {lent} same p p' ρ f long slot =
@@ -215,13 +236,14 @@ take-alike {e} {e'} {bytes} {lent} same p p' ρ f long slot =
     let cs : Bool → Bool → Bool → Role → Bool → Bool → Session → ℕ =
     λ g u s ρ d k y. first (takeCases g u s (length bytes) ++ packetCases base ρ d k y h (length bytes)) in
     let q : n ≡ n' =
-    ap (λ g. cs g (e .up) (shortStorage base e (length lent)) (e .role) (holds (h .sid) (e .slots)) (full (e .slots)) x) (same .good)
-    ∙ ap (λ u. cs (good base e') u (shortStorage base e (length lent)) (e .role) (holds (h .sid) (e .slots)) (full (e .slots)) x) (same .up)
-    ∙ ap (λ k. cs (good base e') (e' .up) (ltb (length lent) (storageLength payloadLimit k)) (e .role) (holds (h .sid) (e .slots)) (full (e .slots)) x) long
-    ∙ ap (λ t. cs (good base e') (e' .up) (shortStorage base e' (length lent)) t (holds (h .sid) (e .slots)) (full (e .slots)) x) ρ
-    ∙ ap (λ d. cs (good base e') (e' .up) (shortStorage base e' (length lent)) (e' .role) d (full (e .slots)) x) (holds-alike same)
-    ∙ ap (λ k. cs (good base e') (e' .up) (shortStorage base e' (length lent)) (e' .role) (holds (h .sid) (e' .slots)) k x) f
-    ∙ ap (λ y. cs (good base e') (e' .up) (shortStorage base e' (length lent)) (e' .role) (holds (h .sid) (e' .slots)) (full (e' .slots)) y) (same .session) in (
+    ap (λ g. cs g (e .up) (shortStorage base e (length lent)) (e .role) (holds (h .sid) (e .slots)) (full (e .slots)) x) (same .made)
+    ∙ ap (λ u. cs (wellMade base e') u (shortStorage base e (length lent)) (e .role) (holds (h .sid) (e .slots)) (full (e .slots)) x) (same .up)
+    ∙ ap (λ k. cs (wellMade base e') (e' .up) (ltb (length lent) (storageLength payloadLimit k)) (e .role) (holds (h .sid) (e .slots)) (full (e .slots)) x) long
+    ∙ ap (λ t. cs (wellMade base e') (e' .up) (shortStorage base e' (length lent)) t (holds (h .sid) (e .slots)) (full (e .slots)) x) ρ
+    ∙ ap (λ d. cs (wellMade base e') (e' .up) (shortStorage base e' (length lent)) (e' .role) d (full (e .slots)) x) (holds-alike same)
+    ∙ ap (λ k. cs (wellMade base e') (e' .up) (shortStorage base e' (length lent)) (e' .role) (holds (h .sid) (e' .slots)) k x) f
+    ∙ ap (λ y. cs (wellMade base e') (e' .up) (shortStorage base e' (length lent)) (e' .role) (holds (h .sid) (e' .slots)) (full (e' .slots)) y)
+    (same .session) in (
       ap values (p .answer) ∙ shown n bytes e e' ∙ ap (λ k. values (takeAnswer k bytes e')) q ∙ sym (ap values (p' .answer)),
       p .storage ∙ equal n n' _ _ lent lent refl refl q (stored (flagsOf (h .flags)) e e' h bytes lent (same .session) slot) refl ∙ sym (p' .storage),
     )

@@ -10,30 +10,32 @@ use mathlib.Core.List.{List, [], _∷_, _++_}
 use lib.ListN.{length, getD, length-replicate, getD-replicate}
 use lib.Dec.{eqb}
 use borrow.Author.Tests.{eqb-false, ne-eqb, lt-ltb, le-ltb}
-use Rattle.first.specs.Cases.{if, done}
+use Rattle.cases.specs.Cases.{if, done}
 use Rattle.wire.specs.declared.header.Header.{Header}
 use Rattle.wire.specs.declared.kind.Kind.the-variants.{Syn, Ack, Fin, Data}
 use Rattle.wire.specs.declared.kind.Flags.{Flags}
 use Rattle.wire.specs.declared.kind.Flags.the-variants.{One, Wrong}
-use Rattle.wire.specs.Packet.{readHeader, flagsOf, onto}
+use Rattle.wire.specs.Packet.{readHeader, flagsOf}
+use Rattle.buffer.specs.Onto.{onto}
 use Rattle.session.specs.Record.{free}
 use Rattle.table.specs.declared.end.Role.{Role}
 use Rattle.table.specs.declared.end.End.{End}
-use Rattle.smp.specs.declared.start.Started.{Started}
-use Rattle.smp.specs.declared.open.Opened.{Opened}
-use Rattle.smp.specs.declared.send.Sent.{Sent}
-use Rattle.smp.specs.declared.read.Got.{Got}
-use Rattle.smp.specs.declared.close.Closed.{Closed}
-use Rattle.smp.specs.declared.shutdown.Stopped.{Stopped}
-use Rattle.smp.specs.declared.take.Taken.{Taken}
-use Rattle.smp.specs.Calling.{base}
-use Rattle.smp.specs.Start.{StartPromise}
-use Rattle.smp.specs.Open.{openNumber, openOf, openPacket, OpenPromise}
-use Rattle.smp.specs.Send.{sendNumber, sendOf, sendPacket, SendPromise}
-use Rattle.smp.specs.Read.{readNumber, readOf, readPayload, readAck, ReadPromise}
-use Rattle.smp.specs.Close.{closeNumber, closeOf, closePacket, ClosePromise}
-use Rattle.smp.specs.Shutdown.{shutdownNumber, shutdownOf, ShutdownPromise}
-use Rattle.smp.specs.Take.{takeNumber, missing, takeRefused, takeFault, takeOf, takeStorage, TakePromise}
+use Rattle.start.specs.declared.Started.{Started}
+use Rattle.open.specs.declared.Opened.{Opened}
+use Rattle.send.specs.declared.Sent.{Sent}
+use Rattle.read.specs.declared.Got.{Got}
+use Rattle.close.specs.declared.Closed.{Closed}
+use Rattle.shutdown.specs.declared.Stopped.{Stopped}
+use Rattle.take.specs.declared.Taken.{Taken}
+use Rattle.table.specs.Limits.{base}
+use Rattle.start.specs.Start.{StartPromise}
+use Rattle.open.specs.Open.{openNumber, openOf, openPacket, OpenPromise}
+use Rattle.send.specs.Send.{sendNumber, sendOf, sendPacket, SendPromise}
+use Rattle.read.specs.Read.{readNumber, readOf, readPayload, readAck, ReadPromise}
+use Rattle.close.specs.Close.{closeNumber, closeOf, closePacket, ClosePromise}
+use Rattle.shutdown.specs.Shutdown.{shutdownNumber, shutdownOf, ShutdownPromise}
+use Rattle.judge.specs.Number.{takeNumber, missing}
+use Rattle.take.specs.Take.{takeRefused, takeFault, takeOf, takeStorage, TakePromise}
 use Rattle.laws.specs.When.{When, Applies, here, later, Exactly}
 use Rattle.laws.specs.Whens.{kindWhens, takeWhens}
 use Rattle.laws.specs.Lists.{Among, first, further, openList, sendList, readList, closeList, shutdownList, takeList}
@@ -108,13 +110,13 @@ module _ {e : End} {sid : ℕ} {storage lent lentAck exit exitAck : List ℕ} {r
   pub read-listed : (r .number ≡ 0) ⊎ Among (r .number) readList
   read-listed = listed (read-exact p)
 
-  pub read-refused : (r .number ≡ 0 → ⊥) → (r .end ≡ e) × (r .payload ≡ 0) × (r .ack ≡ 0) × (exit ≡ lent) × (exitAck ≡ lentAck)
+  pub read-refused : (r .number ≡ 0 → ⊥) → (r .end ≡ e) × (r .«payload_length» ≡ 0) × (r .«ack_length» ≡ 0) × (exit ≡ lent) × (exitAck ≡ lentAck)
   unfolding readOf readPayload readAck
   read-refused n =
       let s = refusal (λ (a : Got). a .number) (readNumber base e sid (length lent) (length lentAck) (length storage)) _ _ (p .answer) refl n in (
         ap (λ (a : Got). a .end) (s .0),
-        ap (λ (a : Got). a .payload) (s .0),
-        ap (λ (a : Got). a .ack) (s .0),
+        ap (λ (a : Got). a .«payload_length») (s .0),
+        ap (λ (a : Got). a .«ack_length») (s .0),
         untouched _ _ lent (p .payload) (s .1),
         untouched _ _ lentAck (p .ack) (s .1),
       )

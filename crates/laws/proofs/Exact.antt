@@ -9,8 +9,8 @@ use mathlib.Core.List.{List, _∷_, _++_}
 use lib.ListN.{length}
 use lib.Dec.{eqb, ltb}
 use borrow.Author.Tests.{ltb-true, ltb-false, eqb-true, eq-eqb, eqb-false}
-use Rattle.first.specs.Cases.{Case, if, done}
-use Rattle.first.proofs.Tests.{never, and-split, and-both, or-split}
+use Rattle.cases.specs.Cases.{Case, if, done}
+use Rattle.cases.proofs.Tests.{never, and-split, and-both, or-split}
 use Rattle.wire.specs.declared.header.Header.{Header}
 use Rattle.wire.specs.declared.kind.Kind.{Kind}
 use Rattle.wire.specs.declared.kind.Kind.the-variants.{Syn, Ack, Fin, Data}
@@ -26,23 +26,26 @@ use Rattle.table.specs.declared.end.Role.{Role}
 use Rattle.table.specs.declared.end.Role.the-variants.{Client, Server}
 use Rattle.table.specs.declared.end.End.{End}
 use Rattle.table.specs.Slots.{holds, sessionOf, full}
-use Rattle.table.specs.Well.{WellMade}
+use Rattle.table.specs.Well.{WellMade, wellMade}
 use Rattle.table.proofs.Made.{made, tested}
-use Rattle.smp.specs.declared.open.Opened.{Opened}
-use Rattle.smp.specs.declared.send.Sent.{Sent}
-use Rattle.smp.specs.declared.read.Got.{Got}
-use Rattle.smp.specs.declared.close.Closed.{Closed as ClosedAnswer}
-use Rattle.smp.specs.declared.shutdown.Stopped.{Stopped}
-use Rattle.smp.specs.declared.take.Taken.{Taken}
-use Rattle.smp.specs.Calling.{base, good, shortStorage, calling}
-use Rattle.smp.specs.Open.{isServer, openCases, openNumber, openOf, OpenPromise}
-use Rattle.smp.specs.Send.{sendCases, sendNumber, sendOf, SendPromise}
-use Rattle.smp.specs.Read.{oldestLength, readCases, readNumber, readOf, ReadPromise}
-use Rattle.smp.specs.Close.{closeCases, closeNumber, closeOf, ClosePromise}
-use Rattle.smp.specs.Shutdown.{shutdownCases, shutdownNumber, shutdownOf, ShutdownPromise}
-use Rattle.smp.specs.Take.{isClient, synCases, otherCases, kindCases, packetCases, takeCases, takeNumber, takeAnswer, takeOf, TakePromise}
+use Rattle.open.specs.declared.Opened.{Opened}
+use Rattle.send.specs.declared.Sent.{Sent}
+use Rattle.read.specs.declared.Got.{Got}
+use Rattle.close.specs.declared.Closed.{Closed as ClosedAnswer}
+use Rattle.shutdown.specs.declared.Stopped.{Stopped}
+use Rattle.take.specs.declared.Taken.{Taken}
+use Rattle.table.specs.Limits.{base}
+use Rattle.calling.specs.Calling.{shortStorage, calling}
+use Rattle.open.specs.Open.{isServer, openCases, openNumber, openOf, OpenPromise}
+use Rattle.send.specs.Send.{sendCases, sendNumber, sendOf, SendPromise}
+use Rattle.read.specs.Read.{oldestLength, readCases, readNumber, readOf, ReadPromise}
+use Rattle.close.specs.Close.{closeCases, closeNumber, closeOf, ClosePromise}
+use Rattle.shutdown.specs.Shutdown.{shutdownCases, shutdownNumber, shutdownOf, ShutdownPromise}
+use Rattle.judge.specs.Number.{isClient, synCases, otherCases, kindCases, packetCases, takeCases, takeNumber}
+use Rattle.take.specs.Take.{takeAnswer, takeOf, TakePromise}
 use Rattle.laws.specs.When.{When, when, Exactly}
-use Rattle.laws.specs.Whens.{isWell, isUp, isHeld, Short, Enough, openWhens, sendWhens, readWhens, closeWhens, shutdownWhens, synWhens, otherWhens, kindWhens, packetWhens, takeWhens}
+use Rattle.laws.specs.Whens.{isWell, isUp, isHeld, Short, Enough, openWhens, sendWhens, readWhens, closeWhens, shutdownWhens, synWhens}
+use Rattle.laws.specs.Whens.{otherWhens, kindWhens, packetWhens, takeWhens}
 use Rattle.laws.proofs.Plain.{Tells, held, fully, sized, windowed, sequenced, in-established}
 use Rattle.laws.proofs.Matching.{Is, Match, ends, goes, exactly, is, isnt, plainly, below, equal}
 
@@ -61,7 +64,8 @@ some n p = eqb-false n 0 p
 
 -- ---- tests of states and roles
 
-state-is : {n : ℕ} (test : State → Bool) (st : State) → test st ≡ true → ((s : State) → test s ≡ true → s ≡ st) → (s : State) → Is (test s) (when n (s ≡ st) (s ≡ st → ⊥))
+state-is : {n : ℕ} (test : State → Bool) (st : State) → test st ≡ true → ((s : State) → test s ≡ true → s ≡ st) → (s : State)
+    → Is (test s) (when n (s ≡ st) (s ≡ st → ⊥))
 state-is test st p f s = is (test s) (f s) (λ q e. never (sym q ∙ ap test e ∙ p)) (λ a b. b a)
 
 in-fin-sent : (s : State) → finSent s ≡ true → s ≡ FinSent
@@ -102,15 +106,15 @@ told-not {b = b} t = isnt b (λ p q. never (sym p ∙ t .back q)) (t .to) (λ f 
 
 -- ---- 12, 1, 4
 
-well : {n : ℕ} (e : End) → Is (not (good base e)) (when n (WellMade window payloadLimit e → ⊥) (WellMade window payloadLimit e))
-well e = isnt (good base e) (λ p w. never (sym p ∙ tested window payloadLimit e w)) (made window payloadLimit e) (λ f w. f w)
+well : {n : ℕ} (e : End) → Is (not (wellMade base e)) (when n (WellMade base e → ⊥) (WellMade base e))
+well e = isnt (wellMade base e) (λ p w. never (sym p ∙ tested base e w)) (made base e) (λ f w. f w)
 
 before-call : {cs : List Case} {ws : List When} (e : End) (sid : ℕ) → Match cs ws → Match (calling base e sid ++ cs) (isWell e ∷ isUp e ∷ isHeld e sid ∷ ws)
 before-call e sid m = goes refl (some 12 refl) (well e) (goes refl (some 1 refl) (plainly (e .up)) (goes refl (some 4 refl) (told-not (held sid e)) m))
 
 -- ---- open, send, read, close, shutdown
 
-open-match : (e : End) (room : ℕ) → Match (openCases (good base e) (e .up) (e .role) (full (e .slots)) room) (openWhens e room)
+open-match : (e : End) (room : ℕ) → Match (openCases (wellMade base e) (e .up) (e .role) (full (e .slots)) room) (openWhens e room)
 open-match e room =
     goes refl (some 12 refl) (well e)
     (goes refl (some 1 refl) (plainly (e .up))
@@ -142,10 +146,12 @@ short-read : {n : ℕ} (e : End) (x : Session) (room ack storage : ℕ)
     → Is (ltb room (oldestLength x) || (established (x .state) && ltb ack headerLength || shortStorage base e storage))
     (when n ((room < oldestLength x) ⊎ (((x .state ≡ Established) × (ack < headerLength)) ⊎ Short e storage))
     ((oldestLength x ≤ room) × (x .state ≡ Established → headerLength ≤ ack) × Enough e storage))
-short-read e x room ack storage = is _ one (λ p. let a = or-split (ltb room (oldestLength x)) _ p in let b = or-split (established (x .state) && ltb ack headerLength) _ (a .1) in
+short-read e x room ack storage = is _ one (λ p. let a = or-split (ltb room (oldestLength x)) _ p in let b =
+    or-split (established (x .state) && ltb ack headerLength) _ (a .1) in
     (ltb-false _ _ (a .0), (λ q. ltb-false _ _ (rw q at (b .0))), ltb-false _ _ (b .1))) apart
   where
-    two : (s : Bool) → (established (x .state) && ltb ack headerLength) ≡ s → s || shortStorage base e storage ≡ true → ((x .state ≡ Established) × (ack < headerLength)) ⊎ Short e storage
+    two : (s : Bool) → (established (x .state) && ltb ack headerLength) ≡ s → s || shortStorage base e storage ≡ true
+        → ((x .state ≡ Established) × (ack < headerLength)) ⊎ Short e storage
     two true q p = let t = and-split (established (x .state)) (ltb ack headerLength) q in inl (in-established (x .state) (t .0), ltb-true _ _ (t .1))
     two false q p = inr (ltb-true _ _ p)
 
@@ -178,7 +184,8 @@ pub read-exact : {e : End} {sid : ℕ} {storage lent lentAck exit exitAck : List
     → Exactly (r .number) (readWhens e sid (length lent) (length lentAck) (length storage))
 unfolding readOf readNumber
 read-exact {e} {sid} {storage} {lent} {lentAck} p =
-    exactly (read-match e sid (length lent) (length lentAck) (length storage)) (ap (λ (r : Got). r .number) (p .answer) ∙ told (λ (r : Got). r .number) _ _ _ refl refl)
+    exactly (read-match e sid (length lent) (length lentAck) (length storage))
+    (ap (λ (r : Got). r .number) (p .answer) ∙ told (λ (r : Got). r .number) _ _ _ refl refl)
 
 close-match : (e : End) (sid room : ℕ) → Match (calling base e sid ++ closeCases (sessionOf sid (e .slots)) room) (closeWhens e sid room)
 close-match e sid room =
@@ -186,12 +193,13 @@ close-match e sid room =
     (goes refl (some 5 refl) (state-is finSent FinSent refl in-fin-sent (sessionOf sid (e .slots) .state))
     (goes refl (some 9 refl) (below room headerLength) ends))
 
-pub close-exact : {e : End} {sid : ℕ} {lent exit : List ℕ} {r : ClosedAnswer} → ClosePromise e sid lent r exit → Exactly (r .number) (closeWhens e sid (length lent))
+pub close-exact : {e : End} {sid : ℕ} {lent exit : List ℕ} {r : ClosedAnswer} → ClosePromise e sid lent r exit
+    → Exactly (r .number) (closeWhens e sid (length lent))
 unfolding closeOf closeNumber
 close-exact {e} {sid} {lent} p =
     exactly (close-match e sid (length lent)) (ap (λ (r : ClosedAnswer). r .number) (p .answer) ∙ told (λ (r : ClosedAnswer). r .number) _ _ _ refl refl)
 
-shutdown-match : (e : End) → Match (shutdownCases (good base e) (e .up)) (shutdownWhens e)
+shutdown-match : (e : End) → Match (shutdownCases (wellMade base e) (e .up)) (shutdownWhens e)
 shutdown-match e = goes refl (some 12 refl) (well e) (goes refl (some 1 refl) (plainly (e .up)) ends)
 
 pub shutdown-exact : {e : End} {r : Stopped} → ShutdownPromise e r → Exactly (r .number) (shutdownWhens e)
@@ -234,7 +242,8 @@ named f = by (flagsOf f) refl
   where
     by : {n : ℕ} (g : Flags) → flagsOf f ≡ g → Is (not (isKind g)) (when n ((k : Kind) → f ≡ flagsValue k → ⊥) ((k : Kind) × (f ≡ flagsValue k)))
     by (One k) e = is false (λ p. never p) (λ _. (k, value-of-flags f k e)) (λ none s. none (s .0) (s .1))
-    by Wrong e = is true (λ _ k p. let q : flagsOf f ≡ One k = flags-named f k p in let z : _≡_ {A = ℕ} 0 1 = cc in omega arith) (λ p. never (sym p)) (λ none s. none (s .0) (s .1))
+    by Wrong e = is true (λ _ k p. let q : flagsOf f ≡ One k = flags-named f k p in let z : _≡_ {A = ℕ} 0 1 = cc in omega arith) (λ p. never (sym p))
+        (λ none s. none (s .0) (s .1))
 
 packet-match : (e : End) (h : Header) (given : ℕ)
     → Match (packetCases base (e .role) (holds (h .sid) (e .slots)) (full (e .slots)) (sessionOf (h .sid) (e .slots)) h given) (packetWhens e h given)
@@ -245,8 +254,9 @@ packet-match e h given =
     (goes refl (some 10 refl) (below given (h .length)) (kind-match (flagsOf (h .flags)) e h))))
 
 take-match : (e : End) (bytes : List ℕ) (storage : ℕ)
-    → Match (takeCases (good base e) (e .up) (shortStorage base e storage) (length bytes)
-    ++ packetCases base (e .role) (holds (readHeader bytes .sid) (e .slots)) (full (e .slots)) (sessionOf (readHeader bytes .sid) (e .slots)) (readHeader bytes) (length bytes))
+    → Match (takeCases (wellMade base e) (e .up) (shortStorage base e storage) (length bytes)
+    ++ packetCases base (e .role) (holds (readHeader bytes .sid) (e .slots)) (full (e .slots)) (sessionOf (readHeader bytes .sid) (e .slots)) (readHeader bytes)
+    (length bytes))
     (takeWhens e bytes storage)
 take-match e bytes storage =
     goes refl (some 12 refl) (well e)

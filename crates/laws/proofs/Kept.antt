@@ -10,9 +10,9 @@ use mathlib.Core.List.{List, _∷_, _++_}
 use lib.ListN.{length}
 use lib.Dec.{eqb, ltb}
 use borrow.Author.Tests.{eqb-true, eqb-false, ltb-false, not-false}
-use Rattle.first.specs.Cases.{Case, _⇒_, if, first, done}
-use Rattle.first.proofs.Tests.{never}
-use Rattle.first.proofs.First.{numbered, test, clear}
+use Rattle.cases.specs.Cases.{Case, _⇒_, if, first, done}
+use Rattle.cases.proofs.Tests.{never}
+use Rattle.cases.proofs.First.{numbered, test, clear}
 use Rattle.wire.specs.declared.header.Header.{Header}
 use Rattle.wire.specs.declared.kind.Kind.{Kind}
 use Rattle.wire.specs.declared.kind.Kind.the-variants.{Syn, Ack, Fin, Data}
@@ -30,36 +30,35 @@ use Rattle.session.specs.declared.record.Session.{Session}
 use Rattle.session.specs.Record as record'
 use Rattle.session.specs.Record.{window, payloadLimit, freshOf, inUse, established, finSent, finReceived, unread}
 use Rattle.session.specs.Well.{InOrder}
-use Rattle.session.specs.Calls.{sentOn, readOn, closedOn}
-use Rattle.session.proofs.Kept.{Keeps, sent-keeps, read-keeps, closed-keeps, becomes-keeps}
+use Rattle.session.specs.Changes.{sentOn, readOn, closedOn}
+use Rattle.session.proofs.Kept.{Keeps, sent-keeps, read-keeps, closed-keeps}
+use Rattle.effect.proofs.Kept.{becomes-keeps}
 use Rattle.table.specs.declared.end.Role.{Role}
 use Rattle.table.specs.declared.end.End.{End}
 use Rattle.table.specs.Slots.{holds, sessionOf, lowestFree, full, smallestSid}
 use Rattle.table.specs.End as table
-use Rattle.table.specs.Well.{Fits}
+use Rattle.table.specs.Well.{Fits, wellMade}
 use Rattle.table.proofs.Smallest.{smallest-new, smallest-within}
 use Rattle.table.proofs.Kept.{Sound, start-sound, down-sound, changed-sound, begun-sound, found-used, found-order, found-fits}
-use Rattle.smp.specs.Calling.{Limits, base, good, calling, shortStorage}
-use Rattle.smp.specs.declared.start.Started.{Started}
-use Rattle.smp.specs.Start.{StartPromise}
-use Rattle.smp.specs.declared.open.Opened.{Opened}
-use Rattle.smp.specs.Open.{openCases, openNumber, openOf, OpenPromise}
-use Rattle.smp.specs.declared.send.Sent.{Sent}
-use Rattle.smp.specs.Send.{sendCases, sendNumber, sendOf, SendPromise}
-use Rattle.smp.specs.declared.read.Got.{Got}
-use Rattle.smp.specs.Read.{readCases, readNumber, readOf, ReadPromise}
-use Rattle.smp.specs.declared.close.Closed.{Closed}
-use Rattle.smp.specs.Close.{closeCases, closeNumber, closeOf, ClosePromise}
-use Rattle.smp.specs.declared.shutdown.Stopped.{Stopped}
-use Rattle.smp.specs.Shutdown.{shutdownNumber, shutdownOf, ShutdownPromise}
-use Rattle.smp.specs.declared.take.Taken.{Taken}
-use Rattle.smp.specs.Take.{takeCases, synCases, otherCases, kindCases, takeNumber, missing, takeRefused, takeFault, takenOn, takenEnd, takeOf, TakePromise}
+use Rattle.table.specs.Limits.{Limits, base}
+use Rattle.calling.specs.Calling.{calling, shortStorage}
+use Rattle.start.specs.declared.Started.{Started}
+use Rattle.start.specs.Start.{StartPromise}
+use Rattle.open.specs.declared.Opened.{Opened}
+use Rattle.open.specs.Open.{openCases, openNumber, openOf, OpenPromise}
+use Rattle.send.specs.declared.Sent.{Sent}
+use Rattle.send.specs.Send.{sendCases, sendNumber, sendOf, SendPromise}
+use Rattle.read.specs.declared.Got.{Got}
+use Rattle.read.specs.Read.{readCases, readNumber, readOf, ReadPromise}
+use Rattle.close.specs.declared.Closed.{Closed}
+use Rattle.close.specs.Close.{closeCases, closeNumber, closeOf, ClosePromise}
+use Rattle.shutdown.specs.declared.Stopped.{Stopped}
+use Rattle.shutdown.specs.Shutdown.{shutdownNumber, shutdownOf, ShutdownPromise}
+use Rattle.take.specs.declared.Taken.{Taken}
+use Rattle.judge.specs.Number.{takeCases, synCases, otherCases, kindCases, takeNumber, missing}
+use Rattle.take.specs.Take.{takeRefused, takeFault, takenOn, takenEnd, takeOf, TakePromise}
 
 -- ---- over the limits
-
--- well made under these limits, and every field a value of its type
-abbrev Held : Limits → End → Type 0
-Held lim e = Sound (lim .window) (lim .place) e
 
 -- what holds of the answer done, where the number is 0, and of the one refused
 either : {A : Type 0} (P : A → Type 0) (n : ℕ) (a b : A) → (n ≡ 0 → P a) → P b → P (done n a b)
@@ -80,15 +79,15 @@ some-unread x u p q r = eqb-false _ _ (by (x .state) (eqb (unread x) 0) u p q r)
     by state.FinSent z u p q r = never (sym p)
     by state.Closed z u p q r = never u
 
-module _ (lim : Limits) {e : End} (s : Held lim e) where
-  open-held : window ≤ lim .window → (room : ℕ) → Held lim (openOf lim e room .end)
+module _ (lim : Limits) {e : End} (s : Sound lim e) where
+  open-held : window ≤ lim .window → (room : ℕ) → Sound lim (openOf lim e room .end)
   unfolding openOf openNumber numbered test
-  open-held low room = either (λ (r : Opened). Held lim (r .end)) (openNumber lim e room) _ _ go s
+  open-held low room = either (λ (r : Opened). Sound lim (r .end)) (openNumber lim e room) _ _ go s
     where
       cases : List Case
-      cases = openCases (good lim e) (e .up) (e .role) (full (e .slots)) room
+      cases = openCases (wellMade lim e) (e .up) (e .role) (full (e .slots)) room
 
-      go : first cases ≡ 0 → Held lim (table.putOf (lowestFree (e .slots)) (freshOf (smallestSid (e .slots))) e)
+      go : first cases ≡ 0 → Sound lim (table.putOf (lowestFree (e .slots)) (freshOf (smallestSid (e .slots))) e)
       go p =
           begun-sound s low (not-false _ (clear cases 1 refl p)) (clear cases 3 refl p) (smallestSid (e .slots))
           (omega (arith, s .fits .few, smallest-within (e .slots))) (smallest-new (e .slots))
@@ -100,44 +99,44 @@ module _ (lim : Limits) {e : End} (s : Held lim e) where
 
     change : (f : Session → Session) → holds sid (e .slots) ≡ true
         → (InOrder (lim .window) (lim .place) x → record'.Fits x → inUse (x .state) ≡ true → Keeps (lim .window) (lim .place) x (f x))
-        → Held lim (table.changedOf sid f e)
+        → Sound lim (table.changedOf sid f e)
     change f h k = changed-sound s sid h f (k (found-order s sid h) (found-fits s sid h) (found-used s sid h))
 
-    send-held : (payload : List ℕ) (room : ℕ) → Held lim (sendOf lim e sid payload room .end)
+    send-held : (payload : List ℕ) (room : ℕ) → Sound lim (sendOf lim e sid payload room .end)
     unfolding sendOf sendNumber numbered test
-    send-held payload room = either (λ (r : Sent). Held lim (r .end)) (sendNumber lim e sid (length payload) room) _ _ go s
+    send-held payload room = either (λ (r : Sent). Sound lim (r .end)) (sendNumber lim e sid (length payload) room) _ _ go s
       where
         cases : List Case
         cases = calling lim e sid ++ sendCases lim x (length payload) room
 
-        go : first cases ≡ 0 → Held lim (table.changedOf sid sentOn e)
+        go : first cases ≡ 0 → Sound lim (table.changedOf sid sentOn e)
         go p = change sentOn (not-false _ (clear cases 4 refl p)) (λ o f u. sent-keeps o f u (eqb-false _ _ (clear cases 7 refl p)))
 
-    read-held : (room ack storage : ℕ) → Held lim (readOf lim e sid room ack storage .end)
+    read-held : (room ack storage : ℕ) → Sound lim (readOf lim e sid room ack storage .end)
     unfolding readOf readNumber numbered test
-    read-held room ack storage = either (λ (r : Got). Held lim (r .end)) (readNumber lim e sid room ack storage) _ _ go s
+    read-held room ack storage = either (λ (r : Got). Sound lim (r .end)) (readNumber lim e sid room ack storage) _ _ go s
       where
         cases : List Case
         cases = calling lim e sid ++ readCases x room ack (shortStorage lim e storage)
 
-        go : first cases ≡ 0 → Held lim (table.changedOf sid readOn e)
+        go : first cases ≡ 0 → Sound lim (table.changedOf sid readOn e)
         go p =
             change readOn (not-false _ (clear cases 4 refl p))
             (λ o f u. read-keeps o f u (some-unread x u (clear cases 5 refl p) (clear cases 8 refl p) (clear cases 11 refl p)))
 
-    close-held : (room : ℕ) → Held lim (closeOf lim e sid room .end)
+    close-held : (room : ℕ) → Sound lim (closeOf lim e sid room .end)
     unfolding closeOf closeNumber numbered test
-    close-held room = either (λ (r : Closed). Held lim (r .end)) (closeNumber lim e sid room) _ _ go s
+    close-held room = either (λ (r : Closed). Sound lim (r .end)) (closeNumber lim e sid room) _ _ go s
       where
         cases : List Case
         cases = calling lim e sid ++ closeCases x room
 
-        go : first cases ≡ 0 → Held lim (table.changedOf sid closedOn e)
+        go : first cases ≡ 0 → Sound lim (table.changedOf sid closedOn e)
         go p = change closedOn (not-false _ (clear cases 4 refl p)) closed-keeps
 
-  shutdown-held : Held lim (shutdownOf lim e .end)
+  shutdown-held : Sound lim (shutdownOf lim e .end)
   unfolding shutdownOf
-  shutdown-held = either (λ (r : Stopped). Held lim (r .end)) (shutdownNumber lim e) _ _ (λ _. down-sound s) s
+  shutdown-held = either (λ (r : Stopped). Sound lim (r .end)) (shutdownNumber lim e) _ _ (λ _. down-sound s) s
 
   -- ---- take: of any header whose fields fit where the bytes for it are there
 
@@ -151,7 +150,7 @@ module _ (lim : Limits) {e : End} (s : Held lim e) where
     -- the cases up to the packet's kind, then those of its kind
     abbrev cases : List Case → List Case
     cases rest =
-        takeCases (good lim e) (e .up) (shortStorage lim e storage) given
+        takeCases (wellMade lim e) (e .up) (shortStorage lim e storage) given
         ++ (headerCases (lim .place) h ++ (ltb given (h .length) ⇒ 10 ∷ rest))
 
     all-fit : (rest : List Case) → numbered rest ≡ true → first (cases rest) ≡ 0 → packet.Fits h
@@ -160,7 +159,7 @@ module _ (lim : Limits) {e : End} (s : Held lim e) where
 
     -- a SYN begins a session
     syn-held : window ≤ lim .window → first (cases (synCases (e .role) known (full (e .slots)) h)) ≡ 0
-        → Held lim (table.putOf (lowestFree (e .slots)) (freshOf (h .sid)) e)
+        → Sound lim (table.putOf (lowestFree (e .slots)) (freshOf (h .sid)) e)
     unfolding numbered test
     syn-held low p =
         begun-sound s low (not-false _ (clear (cases rest) 1 refl p)) (clear (cases rest) 26 refl p) (h .sid)
@@ -171,7 +170,7 @@ module _ (lim : Limits) {e : End} (s : Held lim e) where
 
     -- any other packet makes of its session what the table says
     other-held : (k : Kind) → flagsOf (h .flags) ≡ One k → first (cases (otherCases lim k known found h)) ≡ 0
-        → Held lim (table.changedOf (h .sid) (takenOn k h) e)
+        → Sound lim (table.changedOf (h .sid) (takenOn k h) e)
     unfolding numbered test
     other-held k q p =
         change (h .sid) (takenOn k h) (not-false _ (clear (cases rest) 23 refl p))
@@ -192,7 +191,7 @@ module _ (lim : Limits) {e : End} (s : Held lim e) where
         sound = shapes.made (lim .place) h k (eqb-true _ _ (not-false _ (clear (cases rest) 20 refl p))) q (rw q at whole)
 
     taken-held : window ≤ lim .window → (f : Flags) → flagsOf (h .flags) ≡ f
-        → first (cases (kindCases lim f (e .role) known (full (e .slots)) found h)) ≡ 0 → Held lim (takenEnd f h e)
+        → first (cases (kindCases lim f (e .role) known (full (e .slots)) found h)) ≡ 0 → Sound lim (takenEnd f h e)
     taken-held low (One Syn) q p = syn-held low p
     taken-held low (One Ack) q p = other-held Ack q p
     taken-held low (One Fin) q p = other-held Fin q p
@@ -200,9 +199,9 @@ module _ (lim : Limits) {e : End} (s : Held lim e) where
     taken-held low Wrong q p = s
 
   -- a refusal returns the record as lent, a fault the end down
-  take-held : window ≤ lim .window → (bytes : List ℕ) → AreBytes bytes → (storage : ℕ) → Held lim (takeOf lim e bytes storage .end)
+  take-held : window ≤ lim .window → (bytes : List ℕ) → AreBytes bytes → (storage : ℕ) → Sound lim (takeOf lim e bytes storage .end)
   unfolding takeOf takeNumber
-  take-held low bytes all storage = either (λ (r : Taken). Held lim (r .end)) n _ _ go (by (ltb n 20))
+  take-held low bytes all storage = either (λ (r : Taken). Sound lim (r .end)) n _ _ go (by (ltb n 20))
     where
       h : Header
       h = readHeader bytes
@@ -210,50 +209,50 @@ module _ (lim : Limits) {e : End} (s : Held lim e) where
       n : ℕ
       n = takeNumber lim e bytes storage
 
-      go : n ≡ 0 → Held lim (takenEnd (flagsOf (h .flags)) h e)
+      go : n ≡ 0 → Sound lim (takenEnd (flagsOf (h .flags)) h e)
       go = taken-held h (length bytes) storage (λ long. read-fits bytes long all) low (flagsOf (h .flags)) refl
 
-      by : (b : Bool) → Held lim ((if b (takeRefused n (missing bytes) e) (takeFault n e)) .end)
+      by : (b : Bool) → Sound lim ((if b (takeRefused n (missing bytes) e) (takeFault n e)) .end)
       by true = s
       by false = down-sound s
 
 -- ---- the calls
 
-pub fresh-good : (role : Role) → good base (table.startOf role) ≡ true
-fresh-good role = start-sound window payloadLimit role .well
+pub fresh-made : (role : Role) → wellMade base (table.startOf role) ≡ true
+fresh-made role = start-sound base role .well
 
 pub fresh-fits : (role : Role) → Fits (table.startOf role)
-fresh-fits role = start-sound window payloadLimit role .fits
+fresh-fits role = start-sound base role .fits
 
-pub start-kept : {role : Role} {r : Started} → StartPromise role r → (good base (r .end) ≡ true) × Fits (r .end)
-start-kept {role} p = rw (p .answer) (fresh-good role, fresh-fits role)
+pub start-kept : {role : Role} {r : Started} → StartPromise role r → (wellMade base (r .end) ≡ true) × Fits (r .end)
+start-kept {role} p = rw (p .answer) (fresh-made role, fresh-fits role)
 
 -- from the law over the limits to the pair that a caller has and gets
-kept : {e e' : End} → (Held base e → Held base e') → good base e ≡ true → Fits e → (good base e' ≡ true) × Fits e'
+kept : {e e' : End} → (Sound base e → Sound base e') → wellMade base e ≡ true → Fits e → (wellMade base e' ≡ true) × Fits e'
 kept f w t = let s = f (record { well = w; fits = t }) in (s .well, s .fits)
 
 pub open-kept : {e : End} {lent exit : List ℕ} {r : Opened} → OpenPromise e lent r exit
-    → good base e ≡ true → Fits e → (good base (r .end) ≡ true) × Fits (r .end)
+    → wellMade base e ≡ true → Fits e → (wellMade base (r .end) ≡ true) × Fits (r .end)
 open-kept {lent = lent} p = rw (p .answer) (kept (λ s. open-held base s (omega arith) (length lent)))
 
 pub send-kept : {e : End} {sid : ℕ} {payload lent exit : List ℕ} {r : Sent} → SendPromise e sid payload lent r exit
-    → good base e ≡ true → Fits e → (good base (r .end) ≡ true) × Fits (r .end)
+    → wellMade base e ≡ true → Fits e → (wellMade base (r .end) ≡ true) × Fits (r .end)
 send-kept {sid = sid} {payload} {lent} p = rw (p .answer) (kept (λ s. send-held base s sid payload (length lent)))
 
 pub read-kept : {e : End} {sid : ℕ} {storage lent lentAck exit exitAck : List ℕ} {r : Got} → ReadPromise e sid storage lent lentAck r exit exitAck
-    → good base e ≡ true → Fits e → (good base (r .end) ≡ true) × Fits (r .end)
+    → wellMade base e ≡ true → Fits e → (wellMade base (r .end) ≡ true) × Fits (r .end)
 read-kept {sid = sid} {storage} {lent} {lentAck} p =
     rw (p .answer) (kept (λ s. read-held base s sid (length lent) (length lentAck) (length storage)))
 
 pub close-kept : {e : End} {sid : ℕ} {lent exit : List ℕ} {r : Closed} → ClosePromise e sid lent r exit
-    → good base e ≡ true → Fits e → (good base (r .end) ≡ true) × Fits (r .end)
+    → wellMade base e ≡ true → Fits e → (wellMade base (r .end) ≡ true) × Fits (r .end)
 close-kept {sid = sid} {lent} p = rw (p .answer) (kept (λ s. close-held base s sid (length lent)))
 
 pub shutdown-kept : {e : End} {r : Stopped} → ShutdownPromise e r
-    → good base e ≡ true → Fits e → (good base (r .end) ≡ true) × Fits (r .end)
+    → wellMade base e ≡ true → Fits e → (wellMade base (r .end) ≡ true) × Fits (r .end)
 shutdown-kept p = rw (p .answer) (kept (λ s. shutdown-held base s))
 
 -- the bytes given are bytes, so the header's fields fit
 pub take-kept : {e : End} {bytes lent exit : List ℕ} {r : Taken} → TakePromise e bytes lent r exit → AreBytes bytes
-    → good base e ≡ true → Fits e → (good base (r .end) ≡ true) × Fits (r .end)
+    → wellMade base e ≡ true → Fits e → (wellMade base (r .end) ≡ true) × Fits (r .end)
 take-kept {bytes = bytes} {lent} p all = rw (p .answer) (kept (λ s. take-held base s (omega arith) bytes all (length lent)))

@@ -6,8 +6,8 @@ use mathlib.Core.Bool.{Bool, true, false, not}
 use mathlib.Core.List.{List, [], _∷_}
 use lib.Dec.{eqb, ltb}
 use borrow.Author.Tests.{ltb-true, ltb-false, eqb-true, eqb-false, not-true, not-false}
-use Rattle.first.specs.Cases.{Case, _⇒_, if, first}
-use Rattle.first.proofs.Tests.{never}
+use Rattle.cases.specs.Cases.{Case, _⇒_, if, first}
+use Rattle.cases.proofs.Tests.{never}
 use Rattle.laws.specs.When.{When, when, Applies, here, later, Clear, none, past, Exactly}
 
 -- the test b is the plain case w, both ways

@@ -4,20 +4,20 @@ use mathlib.Core.Path.{_≡_, sym, _∙_}
 use mathlib.Core.List.{List}
 use Rattle.table.specs.declared.end.Role.{Role}
 use Rattle.table.specs.declared.end.End.{End}
-use Rattle.smp.specs.declared.start.Started.{Started}
-use Rattle.smp.specs.declared.open.Opened.{Opened}
-use Rattle.smp.specs.declared.send.Sent.{Sent}
-use Rattle.smp.specs.declared.read.Got.{Got}
-use Rattle.smp.specs.declared.close.Closed.{Closed}
-use Rattle.smp.specs.declared.shutdown.Stopped.{Stopped}
-use Rattle.smp.specs.declared.take.Taken.{Taken}
-use Rattle.smp.specs.Start.{StartPromise}
-use Rattle.smp.specs.Open.{OpenPromise}
-use Rattle.smp.specs.Send.{SendPromise}
-use Rattle.smp.specs.Read.{ReadPromise}
-use Rattle.smp.specs.Close.{ClosePromise}
-use Rattle.smp.specs.Shutdown.{ShutdownPromise}
-use Rattle.smp.specs.Take.{TakePromise}
+use Rattle.start.specs.declared.Started.{Started}
+use Rattle.open.specs.declared.Opened.{Opened}
+use Rattle.send.specs.declared.Sent.{Sent}
+use Rattle.read.specs.declared.Got.{Got}
+use Rattle.close.specs.declared.Closed.{Closed}
+use Rattle.shutdown.specs.declared.Stopped.{Stopped}
+use Rattle.take.specs.declared.Taken.{Taken}
+use Rattle.start.specs.Start.{StartPromise}
+use Rattle.open.specs.Open.{OpenPromise}
+use Rattle.send.specs.Send.{SendPromise}
+use Rattle.read.specs.Read.{ReadPromise}
+use Rattle.close.specs.Close.{ClosePromise}
+use Rattle.shutdown.specs.Shutdown.{ShutdownPromise}
+use Rattle.take.specs.Take.{TakePromise}
 
 -- what two things both are
 same : {A : Type 0} {a b c : A} → a ≡ c → b ≡ c → a ≡ b
@@ -26,7 +26,8 @@ same p q = p ∙ sym q
 pub start-one : {role : Role} {r r' : Started} → StartPromise role r → StartPromise role r' → r ≡ r'
 start-one p q = same (p .answer) (q .answer)
 
-pub open-one : {e : End} {lent : List ℕ} {r r' : Opened} {exit exit' : List ℕ} → OpenPromise e lent r exit → OpenPromise e lent r' exit' → (r ≡ r') × (exit ≡ exit')
+pub open-one : {e : End} {lent : List ℕ} {r r' : Opened} {exit exit' : List ℕ} → OpenPromise e lent r exit → OpenPromise e lent r' exit' → (r ≡ r')
+    × (exit ≡ exit')
 open-one p q = (same (p .answer) (q .answer), same (p .packet) (q .packet))
 
 pub send-one : {e : End} {sid : ℕ} {payload lent : List ℕ} {r r' : Sent} {exit exit' : List ℕ}

@@ -10,8 +10,8 @@ use lib.ListN.{length, getD}
 use lib.Seq.{getD-set-other}
 use lib.Dec.{eqb}
 use borrow.Author.Tests.{lt-ltb}
-use Rattle.first.specs.Cases.{if, done}
-use Rattle.first.proofs.Tests.{never, is-false}
+use Rattle.cases.specs.Cases.{if, done}
+use Rattle.cases.proofs.Tests.{never, is-false}
 use Rattle.wire.specs.declared.header.Header.{Header}
 use Rattle.wire.specs.declared.kind.Kind.the-variants.{Syn, Ack, Fin, Data}
 use Rattle.wire.specs.declared.kind.Flags.{Flags}
@@ -19,22 +19,23 @@ use Rattle.wire.specs.declared.kind.Flags.the-variants.{One, Wrong}
 use Rattle.wire.specs.Packet.{headerLength, readHeader, flagsOf}
 use Rattle.session.specs.declared.record.Session.{Session}
 use Rattle.session.specs.Record.{free}
-use Rattle.session.specs.Calls.{sentOn, readOn, closedOn}
+use Rattle.session.specs.Changes.{sentOn, readOn, closedOn}
 use Rattle.table.specs.declared.end.End.{End}
 use Rattle.table.specs.Slots.{isOf, sessionOf, changed, lowestFree, smallestSid}
 use Rattle.table.specs.End.{changedOf}
-use Rattle.smp.specs.declared.open.Opened.{Opened}
-use Rattle.smp.specs.declared.send.Sent.{Sent}
-use Rattle.smp.specs.declared.read.Got.{Got}
-use Rattle.smp.specs.declared.close.Closed.{Closed}
-use Rattle.smp.specs.declared.take.Taken.{Taken}
-use Rattle.smp.specs.Calling.{base}
-use Rattle.smp.specs.Open.{openNumber, openedEnd, openDone, openRefused, openOf, OpenPromise}
-use Rattle.smp.specs.Send.{sendNumber, sendDone, sendRefused, sendOf, SendPromise}
-use Rattle.smp.specs.Read.{readNumber, oldestLength, ackOn, readDone, readRefused, readOf, ReadPromise}
-use Rattle.smp.specs.Close.{closeNumber, closeDone, closeRefused, closeOf, ClosePromise}
+use Rattle.open.specs.declared.Opened.{Opened}
+use Rattle.send.specs.declared.Sent.{Sent}
+use Rattle.read.specs.declared.Got.{Got}
+use Rattle.close.specs.declared.Closed.{Closed}
+use Rattle.take.specs.declared.Taken.{Taken}
+use Rattle.table.specs.Limits.{base}
+use Rattle.open.specs.Open.{openNumber, openedEnd, openDone, openRefused, openOf, OpenPromise}
+use Rattle.send.specs.Send.{sendNumber, sendDone, sendRefused, sendOf, SendPromise}
+use Rattle.read.specs.Read.{readNumber, oldestLength, ackOn, readDone, readRefused, readOf, ReadPromise}
+use Rattle.close.specs.Close.{closeNumber, closeDone, closeRefused, closeOf, ClosePromise}
 use Rattle.laws.proofs.Exact.{take-told}
-use Rattle.smp.specs.Take.{takeNumber, missing, takenOn, takenEnd, takeDone, takeRefused, takeOf, TakePromise}
+use Rattle.judge.specs.Number.{takeNumber, missing}
+use Rattle.take.specs.Take.{takenOn, takenEnd, takeDone, takeRefused, takeOf, TakePromise}
 
 -- ---- slots
 
@@ -71,7 +72,8 @@ kept sid e = record { role = refl; up = refl; slots = λ j h. refl }
 changes : (sid : ℕ) (f : Session → Session) (e : End) → Others sid e (changedOf sid f e)
 changes sid f e = record { role = refl; up = refl; slots = stays sid f (e .slots) }
 
-given : {A : Type 0} (end : A → End) (sid n : ℕ) (e : End) (a b : A) {r : A} → r ≡ done n a b → Others sid e (end a) → Others sid e (end b) → Others sid e (end r)
+given : {A : Type 0} (end : A → End) (sid n : ℕ) (e : End) (a b : A) {r : A} → r ≡ done n a b → Others sid e (end a) → Others sid e (end b)
+    → Others sid e (end r)
 given end sid n e a b p x y = record {
   role = ap (λ r. end r .role) p ∙ either (λ r. end r .role) n a b (e .role) (x .role) (y .role);
   up = ap (λ r. end r .up) p ∙ either (λ r. end r .up) n a b (e .up) (x .up) (y .up);
@@ -85,7 +87,8 @@ send-others {e} {sid} {payload} {lent} p =
     given (λ (r : Sent). r .end) sid n e (sendDone (headerLength + length payload) (changedOf sid sentOn e)) (sendRefused n e) (p .answer)
     (changes sid sentOn e) (kept sid e)
 
-pub read-others : {e : End} {sid : ℕ} {storage lent lentAck exit exitAck : List ℕ} {r : Got} → ReadPromise e sid storage lent lentAck r exit exitAck → Others sid e (r .end)
+pub read-others : {e : End} {sid : ℕ} {storage lent lentAck exit exitAck : List ℕ} {r : Got} → ReadPromise e sid storage lent lentAck r exit exitAck
+    → Others sid e (r .end)
 unfolding readOf
 read-others {e} {sid} {storage} {lent} {lentAck} p =
     let n = readNumber base e sid (length lent) (length lentAck) (length storage) in

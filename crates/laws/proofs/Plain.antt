@@ -5,8 +5,8 @@ use mathlib.Core.Path.{_≡_, refl, sym, ap, _∙_}
 use mathlib.Core.Bool.{Bool, true, false, not, _&&_}
 use lib.Dec.{eqb, leb}
 use borrow.Author.Tests.{eqb-true, eq-eqb, eqb-false, ne-eqb, leb-true, le-leb, not-true}
-use Rattle.first.specs.Cases.{if}
-use Rattle.first.proofs.Tests.{never, and-split, and-both, false-not}
+use Rattle.cases.specs.Cases.{if}
+use Rattle.cases.proofs.Tests.{never, and-split, and-both, false-not}
 use Rattle.wire.specs.declared.kind.Kind.{Kind}
 use Rattle.wire.specs.declared.kind.Kind.the-variants.{Syn, Ack, Fin, Data}
 use Rattle.wire.specs.declared.kind.Flags.{Flags}
@@ -18,7 +18,7 @@ use Rattle.session.specs.declared.record.State.the-variants.{Closed, Establishe
 use Rattle.session.specs.declared.record.Session.{Session}
 use Rattle.session.specs.Counter.{minus, plus}
 use Rattle.session.specs.Record.{window, payloadLimit, established}
-use Rattle.session.specs.Taken.{windowInRange, seqnumInRange}
+use Rattle.effect.specs.Taken.{windowInRange, seqnumInRange}
 use Rattle.table.specs.declared.end.End.{End}
 use Rattle.table.specs.Slots.{holds, slotOf, lowestFree, full}
 use Rattle.table.proofs.Made.{slot-holds}
@@ -55,8 +55,10 @@ right Syn n = record { to = eqb-true n headerLength; back = eq-eqb n headerLengt
 right Ack n = record { to = eqb-true n headerLength; back = eq-eqb n headerLength }
 right Fin n = record { to = eqb-true n headerLength; back = eq-eqb n headerLength }
 right Data n = record {
-  to = λ p. let s = and-split (leb headerLength n) (leb n (headerLength + payloadLimit)) p in (leb-true headerLength n (s .0), leb-true n (headerLength + payloadLimit) (s .1));
-  back = λ s. and-both (leb headerLength n) (leb n (headerLength + payloadLimit)) (le-leb headerLength n (s .0)) (le-leb n (headerLength + payloadLimit) (s .1));
+  to = λ p. let s = and-split (leb headerLength n) (leb n (headerLength + payloadLimit)) p in
+      (leb-true headerLength n (s .0), leb-true n (headerLength + payloadLimit) (s .1));
+  back = λ s. and-both (leb headerLength n) (leb n (headerLength + payloadLimit)) (le-leb headerLength n (s .0))
+      (le-leb n (headerLength + payloadLimit) (s .1));
 }
 
 pub sized : (f n : ℕ) → Tells (lengthFits payloadLimit (flagsOf f) n) ((k : Kind) × (f ≡ flagsValue k) × LengthRight k n)

@@ -5,15 +5,15 @@ use mathlib.Core.Bool.{Bool, true, _&&_}
 use mathlib.Core.List.{List, [], _∷_, _++_}
 use lib.ListN.{replicate}
 use lib.Dec.{eqb}
-use Rattle.wire.specs.Packet.{readHeader, headerBytes}
+use Rattle.wire.specs.Packet.{readHeader, headerBytes, headerWith}
 use Rattle.session.specs.declared.record.Session.{Session}
 use Rattle.session.specs.Record.{freshOf, statedOf}
 use Rattle.table.specs.declared.end.Role.the-variants.{Server}
 use Rattle.table.specs.declared.end.End.{End}
 use Rattle.table.specs.End.{startOf, putOf}
-use Rattle.smp.specs.Calling.{base}
-use Rattle.smp.specs.Send.{sendOf, sendPacket}
-use Rattle.smp.specs.Take.{takeOf}
+use Rattle.table.specs.Limits.{base}
+use Rattle.send.specs.Send.{sendOf, sendPacket}
+use Rattle.take.specs.Take.{takeOf}
 
 -- a server with one session, of SID 5
 abbrev pub with : Session → End
@@ -21,7 +21,7 @@ with x = putOf 0 x (startOf Server)
 
 -- a packet's header with these FLAGS, LENGTH, SEQNUM and WNDW
 abbrev pub header : ℕ → ℕ → ℕ → ℕ → List ℕ
-header flags length seqnum wndw = headerBytes (record { smid = 0x53; flags = flags; sid = 5; length = length; seqnum = seqnum; wndw = wndw })
+header flags len seqnum wndw = headerBytes (headerWith flags 5 len seqnum wndw)
 
 -- S = 0xffffffff, H = 3
 abbrev pub sending : Session

@@ -17,15 +17,16 @@ use Rattle.session.specs.Record.{window, payloadLimit, unread}
 use Rattle.table.specs.declared.end.Role.the-variants.{Client, Server}
 use Rattle.table.specs.declared.end.End.{End}
 use Rattle.table.specs.Slots.{sessionOf}
+use Rattle.table.specs.Limits.{base}
 use Rattle.table.specs.Well.{WellMade}
 use Rattle.table.specs.Storage.{storageLength}
-use Rattle.smp.specs.Read.{oldestLength}
+use Rattle.read.specs.Read.{oldestLength}
 use Rattle.laws.specs.When.{When, when}
 use Rattle.laws.specs.Plain.{Held, Full, LengthRight, InWindow, InSequence}
 
 -- 12, the lent record isn't well made; 1, the end is down
 abbrev pub isWell : End → When
-isWell e = when 12 (WellMade window payloadLimit e → ⊥) (WellMade window payloadLimit e)
+isWell e = when 12 (WellMade base e → ⊥) (WellMade base e)
 
 abbrev pub isUp : End → When
 isUp e = when 1 (e .up ≡ false) (e .up ≡ true)

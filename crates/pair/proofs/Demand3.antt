@@ -10,17 +10,18 @@ use Rattle.wire.specs.Packet.{headerLength}
 use Rattle.session.specs.declared.record.State.the-variants.{Established, FinReceived}
 use Rattle.session.specs.Counter.{minus}
 use Rattle.session.specs.Record.{unread}
-use Rattle.smp.specs.declared.open.Opened.{Opened}
-use Rattle.smp.specs.declared.send.Sent.{Sent}
-use Rattle.smp.specs.declared.read.Got.{Got}
-use Rattle.smp.specs.declared.close.Closed.{Closed}
-use Rattle.smp.specs.declared.take.Taken.{Taken}
-use Rattle.smp.specs.Calling.{base, good}
-use Rattle.smp.specs.Open.{OpenPromise}
-use Rattle.smp.specs.Send.{SendPromise}
-use Rattle.smp.specs.Read.{ReadPromise}
-use Rattle.smp.specs.Close.{ClosePromise}
-use Rattle.smp.specs.Take.{TakePromise}
+use Rattle.open.specs.declared.Opened.{Opened}
+use Rattle.send.specs.declared.Sent.{Sent}
+use Rattle.read.specs.declared.Got.{Got}
+use Rattle.close.specs.declared.Closed.{Closed}
+use Rattle.take.specs.declared.Taken.{Taken}
+use Rattle.table.specs.Limits.{base}
+use Rattle.table.specs.Well.{wellMade}
+use Rattle.open.specs.Open.{OpenPromise}
+use Rattle.send.specs.Send.{SendPromise}
+use Rattle.read.specs.Read.{ReadPromise}
+use Rattle.close.specs.Close.{ClosePromise}
+use Rattle.take.specs.Take.{TakePromise}
 use Rattle.lane.specs.Side.{Side, other}
 use Rattle.lane.proofs.Half.{fr}
 use Rattle.lane.proofs.Told.{all-read}
@@ -32,11 +33,11 @@ use Rattle.pair.specs.Step.{Open, Send, Read, Close, Take, Step, did, re
 use Rattle.pair.specs.Seen.{openSeen, sendSeen, readSeen, closeSeen, takeSeen}
 use Rattle.pair.specs.Whose.{Marked}
 use Rattle.pair.specs.History.{Scene, dawn, Entry, history, final}
-use Rattle.pair.specs.Claims.{Every, Some, own, accepted, received, FirstPart, IsTake, Told, FinTaken, OpenedAs, slotAt, Holds, Fine, OwnSlot, aloneStep}
-use Rattle.pair.specs.Claims.{plainReply}
+use Rattle.pair.specs.Claims.{Every, Some, own, accepted, received, FirstPart, IsTake, Told, FinTaken, OpenedAs, slotAt, Holds, Fine, OwnSlot}
+use Rattle.pair.specs.Claims.{aloneStep, plainReply}
 use Rattle.pair.proofs.Bytes.InBuffer.{open-front, send-front, read-front, ack-front, close-front}
 use Rattle.pair.proofs.Mirror.Scene.{Mirror}
-use Rattle.pair.proofs.Mirror.Facts.{good-at}
+use Rattle.pair.proofs.Mirror.Facts.{made-at}
 use Rattle.pair.proofs.History.Along.{dawn-mirror, Run, run, at-end, run-lengths}
 use Rattle.pair.proofs.History.NeverFaults.{run-fine}
 use Rattle.pair.proofs.History.Events.{run-first-part, run-told-whole, half-received, half-accepted}
@@ -66,8 +67,8 @@ module _ (slots place : ℕ) (storage : Side → List ℕ) (steps : List Step) w
     pub never-faults : Every Fine h
     never-faults = run-fine (lanes-run .along)
 
-    pub stays-sound : (k : Side) → (x .world k .end .up ≡ true) × (good (sized place) (x .world k .end) ≡ true)
-    stays-sound k = (mirror .at k .up, good-at mirror k)
+    pub stays-sound : (k : Side) → (x .world k .end .up ≡ true) × (wellMade (sized place) (x .world k .end) ≡ true)
+    stays-sound k = (mirror .at k .up, made-at mirror k)
 
     -- 2. What a session's reads handed over at one side is a first part of what its sends were accepted with at the other, payload by payload.
     pub first-part : (n : ℕ) (k : Side) → FirstPart (received k (own n h)) (accepted (other k) (own n h))
@@ -146,7 +147,8 @@ module _ (p : Party) where
       let packet = ack-front q in
       cc
 
-  pub close-seen : {sid : ℕ} {lent exit : List ℕ} {r : Closed} → ClosePromise (p .end) sid lent r exit → did base (Close sid (length lent)) p ≡ closeSeen p r exit
+  pub close-seen : {sid : ℕ} {lent exit : List ℕ} {r : Closed} → ClosePromise (p .end) sid lent r exit
+      → did base (Close sid (length lent)) p ≡ closeSeen p r exit
   close-seen q = let packet = close-front q in cc
 
   pub take-seen : (given n : ℕ) {exit : List ℕ} {r : Taken} → TakePromise (p .end) (take given (p .coming)) (take n (p .storage)) r exit

@@ -10,14 +10,15 @@ use Rattle.session.specs.declared.record.State.the-variants.{Established, FinRe
 use Rattle.session.specs.Counter.{minus}
 use Rattle.session.specs.Record.{payloadLimit, unread}
 use Rattle.table.specs.End.{slotCount, startOf}
-use Rattle.smp.specs.Calling.{base, good}
+use Rattle.table.specs.Limits.{base}
+use Rattle.table.specs.Well.{wellMade}
 use Rattle.lane.specs.Side.{Side, other}
 use Rattle.pair.specs.World.{roleOf, Sizes}
 use Rattle.pair.specs.Step.{Send, Read, Step, replyTo}
 use Rattle.pair.specs.Whose.{Marked, empty}
 use Rattle.pair.specs.History.{Scene, Entry, history, final}
-use Rattle.pair.specs.Claims.{Every, Some, own, accepted, received, FirstPart, IsTake, Told, FinTaken, OpenedAs, slotAt, Holds, Fine, OwnSlot, aloneStep}
-use Rattle.pair.specs.Claims.{plainReply}
+use Rattle.pair.specs.Claims.{Every, Some, own, accepted, received, FirstPart, IsTake, Told, FinTaken, OpenedAs, slotAt, Holds, Fine, OwnSlot}
+use Rattle.pair.specs.Claims.{aloneStep, plainReply}
 use Rattle.pair.proofs.Demand3 as any
 
 -- both ends just started, any storages, nothing on its way
@@ -37,7 +38,7 @@ module _ (storage : Side → List ℕ) (steps : List Step) where
   pub never-faults : Every Fine h
   never-faults = any.never-faults slotCount payloadLimit storage steps sizes
 
-  pub stays-sound : (k : Side) → (x .world k .end .up ≡ true) × (good base (x .world k .end) ≡ true)
+  pub stays-sound : (k : Side) → (x .world k .end .up ≡ true) × (wellMade base (x .world k .end) ≡ true)
   stays-sound = any.stays-sound slotCount payloadLimit storage steps sizes
 
   pub first-part : (n : ℕ) (k : Side) → FirstPart (received k (own n h)) (accepted (other k) (own n h))

@@ -7,7 +7,7 @@ use mathlib.Core.List.{List, [], _∷_, _++_}
 use mathlib.Core.Option.{Option, none, some}
 use lib.ListN.{length, take, drop, getD}
 use lib.Dec.{eqb}
-use Rattle.first.specs.Cases.{if, done}
+use Rattle.cases.specs.Cases.{if, done}
 use Rattle.wire.specs.declared.kind.Kind.the-variants.{Syn, Fin}
 use Rattle.wire.specs.Packet.{flagsValue}
 use Rattle.session.specs.declared.record.Session.{Session}

@@ -2,14 +2,14 @@
 -- They have small places and few slots, so that they are quick to evaluate; the theorems hold of every size.
 use Prim.Native.Nat.{ℕ}
 use mathlib.Core.Path.{_≡_}
-use mathlib.Core.Bool.{true}
 use mathlib.Core.List.{List, [], _∷_, _++_, map}
 use mathlib.Core.Option.{Option, none, some}
 use lib.ListN.{replicate}
 use Rattle.session.specs.declared.record.Session.{Session}
-use Rattle.session.specs.Record.{free, statedOf}
+use Rattle.session.specs.Record.{statedOf}
 use Rattle.table.specs.declared.end.Role.{Role}
 use Rattle.table.specs.declared.end.Role.the-variants.{Client, Server}
+use Rattle.table.specs.End.{startedOf, putOf}
 use Rattle.lane.specs.Side.{Side, client, server}
 use Rattle.pair.specs.World.{Party, sized}
 use Rattle.pair.specs.Step.{Call, Open, Send, Read, Close, Take, Step}
@@ -105,7 +105,7 @@ late = record {
 }
   where
     at : Role → Session → Party
-    at role x = record { end = record { role = role; up = true; slots = x ∷ free ∷ [] }; storage = replicate 32 0; coming = [] }
+    at role x = record { end = putOf 0 x (startedOf 2 role); storage = replicate 32 0; coming = [] }
 
     worldAt : Side → Party
     worldAt client = at Client (statedOf 0 0xfffffffe 2 0 4)

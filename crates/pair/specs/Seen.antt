@@ -3,11 +3,11 @@
 use Prim.Native.Nat.{ℕ}
 use mathlib.Core.List.{List, _++_}
 use lib.ListN.{take, drop}
-use Rattle.smp.specs.declared.open.Opened.{Opened}
-use Rattle.smp.specs.declared.send.Sent.{Sent}
-use Rattle.smp.specs.declared.read.Got.{Got}
-use Rattle.smp.specs.declared.close.Closed.{Closed}
-use Rattle.smp.specs.declared.take.Taken.{Taken}
+use Rattle.open.specs.declared.Opened.{Opened}
+use Rattle.send.specs.declared.Sent.{Sent}
+use Rattle.read.specs.declared.Got.{Got}
+use Rattle.close.specs.declared.Closed.{Closed}
+use Rattle.take.specs.declared.Taken.{Taken}
 use Rattle.pair.specs.World.{Party}
 use Rattle.pair.specs.Step.{emitting, reading, taking, Done}
 
@@ -24,7 +24,7 @@ closeSeen p r exit = record { reply = emitting (r .number) 0 (r .length) (take (
 -- for the answer, the payload buffer and the ACK buffer at exit
 abbrev pub readSeen : Party → Got → List ℕ → List ℕ → Done
 readSeen p r exit exitAck = record {
-  reply = reading (r .number) (r .payload) (take (r .payload) exit) (r .ack) (take (r .ack) exitAck);
+  reply = reading (r .number) (r .«payload_length») (take (r .«payload_length») exit) (r .«ack_length») (take (r .«ack_length») exitAck);
   end = r .end;
   storage = p .storage;
 }

@@ -4,12 +4,12 @@ use Prim.Native.Nat.{ℕ}
 use mathlib.Core.List.{List, [], _++_}
 use lib.ListN.{length, take, drop}
 use Rattle.table.specs.declared.end.End.{End}
-use Rattle.smp.specs.Calling.{Limits}
-use Rattle.smp.specs.Open.{openOf, openPacket}
-use Rattle.smp.specs.Send.{sendOf, sendPacket}
-use Rattle.smp.specs.Read.{readOf, readPayload, readAck}
-use Rattle.smp.specs.Close.{closeOf, closePacket}
-use Rattle.smp.specs.Take.{takeOf, takeStorage}
+use Rattle.table.specs.Limits.{Limits}
+use Rattle.open.specs.Open.{openOf, openPacket}
+use Rattle.send.specs.Send.{sendOf, sendPacket}
+use Rattle.read.specs.Read.{readOf, readPayload, readAck}
+use Rattle.close.specs.Close.{closeOf, closePacket}
+use Rattle.take.specs.Take.{takeOf, takeStorage}
 use Rattle.lane.specs.Side.{Side, other}
 use Rattle.pair.specs.World.{Party, World, with}
 
@@ -106,8 +106,8 @@ did lim (Send sid payload room) p =
     }
 did lim (Read sid room ack lent) p =
     let r = readOf lim (p .end) sid room ack (length (take lent (p .storage))) in record {
-      reply = reading (r .number) (r .payload) (readPayload lim (p .end) sid room ack (take lent (p .storage)))
-          (r .ack) (readAck lim (p .end) sid room ack (length (take lent (p .storage))));
+      reply = reading (r .number) (r .«payload_length») (readPayload lim (p .end) sid room ack (take lent (p .storage)))
+          (r .«ack_length») (readAck lim (p .end) sid room ack (length (take lent (p .storage))));
       end = r .end;
       storage = p .storage;
     }

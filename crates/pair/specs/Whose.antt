@@ -5,7 +5,7 @@ use Prim.Native.Nat.{ℕ, suc}
 use mathlib.Core.List.{List, [], _∷_, _++_}
 use mathlib.Core.Option.{Option, none, some}
 use lib.Dec.{eqb}
-use Rattle.first.specs.Cases.{if, done}
+use Rattle.cases.specs.Cases.{if, done}
 use Rattle.wire.specs.declared.kind.Kind.the-variants.{Syn}
 use Rattle.wire.specs.Packet.{flagsValue}
 use Rattle.table.specs.Slots.{holds, slotOf, lowestFree}

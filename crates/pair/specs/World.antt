@@ -8,8 +8,8 @@ use Rattle.session.specs.Record.{window}
 use Rattle.table.specs.declared.end.Role.{Role}
 use Rattle.table.specs.declared.end.Role.the-variants.{Client, Server}
 use Rattle.table.specs.declared.end.End.{End}
-use Rattle.table.specs.Slots.{allFree}
-use Rattle.smp.specs.Calling.{Limits}
+use Rattle.table.specs.End.{startedOf}
+use Rattle.table.specs.Limits.{Limits}
 use Rattle.lane.specs.Side.{Side, client, server}
 
 abbrev pub roleOf : Side → Role
@@ -41,10 +41,6 @@ pub record Sizes (slots place : ℕ) : Type 0 where
 abbrev pub sized : ℕ → Limits
 sized place = record { window = window; place = place }
 
--- an end of so many slots as start leaves it
-abbrev pub started : ℕ → Role → End
-started slots role = record { role = role; up = true; slots = allFree slots }
-
 -- both ends fresh, storages of any length and content, both channels empty
 abbrev pub fresh : ℕ → (Side → List ℕ) → World
-fresh slots storage k = record { end = started slots (roleOf k); storage = storage k; coming = [] }
+fresh slots storage k = record { end = startedOf slots (roleOf k); storage = storage k; coming = [] }

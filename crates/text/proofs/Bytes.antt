@@ -10,7 +10,7 @@ use lib.ListN.{length, getD, set, drop, drop-of-length-le}
 use lib.Seq.{drop-cons, paste, paste-suc}
 use lib.Dec.{eqb}
 use borrow.Author.Tests.{eq-eqb, ne-eqb, eqb-true}
-use Rattle.first.proofs.Tests.{and-split, never}
+use Rattle.cases.proofs.Tests.{and-split, never}
 use Rattle.text.specs.Hex.{glyph, digitValue, isDigit, allDigits, isHex, hexByte, fromHex, toHex}
 use Rattle.text.proofs.Digits.{glyph-value, value-glyph}
 
@@ -74,7 +74,8 @@ decode-step d t i h k =
     rw (sym e, add-one i) (ap (λ (j : ℕ). set (paste d 0 (fromHex t) i) j (getD (fromHex t) i 0)) (sym (zero-add i)) ∙ p)
 
 pub put-step : (d : List ℕ) (at : ℕ) (bs : List ℕ) (i : ℕ) → at + (2 * i + 1) < length d → i < length bs
-    → set (set (paste d at (toHex bs) (2 * i)) (at + 2 * i) (glyph (getD bs i 0 / 16))) (at + (2 * i + 1)) (glyph (getD bs i 0 % 16)) ≡ paste d at (toHex bs) (2 * (i + 1))
+    → set (set (paste d at (toHex bs) (2 * i)) (at + 2 * i) (glyph (getD bs i 0 / 16))) (at + (2 * i + 1)) (glyph (getD bs i 0 % 16)) ≡ paste d at (toHex bs)
+    (2 * (i + 1))
 put-step d at bs i h k =
     let n : length (toHex bs) ≡ 2 * length bs = length-to bs in
     let p = paste-suc d at (toHex bs) (2 * i) 0 (omega arith) (omega arith) in

@@ -9,14 +9,15 @@ use lib.ListN.{length, getD, set, length-append}
 use lib.Seq.{paste, length-paste}
 use lib.Dec.{ltb}
 use borrow.Author.Tests.{lt-ltb, le-ltb, ltb-true, ltb-false}
-use Rattle.first.specs.Cases.{if}
+use Rattle.buffer.proofs.Parts.{paste-one, paste-then}
+use Rattle.cases.specs.Cases.{if}
 use Rattle.text.specs.Hex.{glyph, digitValue}
 use Rattle.text.specs.Decimal.{digits, decimal}
 use Rattle.text.proofs.Digits.{glyph-value, glyph-low}
-use Rattle.text.proofs.Parts.{paste-one, paste-then}
 
 -- any bound over the number will do
-enough-step : (b : Bool) (n : ℕ) (x y : List ℕ) → (b ≡ false → x ≡ y) → if b (glyph n ∷ []) (x ++ (glyph (n % 10) ∷ [])) ≡ if b (glyph n ∷ []) (y ++ (glyph (n % 10) ∷ []))
+enough-step : (b : Bool) (n : ℕ) (x y : List ℕ) → (b ≡ false → x ≡ y) → if b (glyph n ∷ []) (x ++ (glyph (n % 10) ∷ [])) ≡ if b (glyph n ∷ [])
+    (y ++ (glyph (n % 10) ∷ []))
 enough-step true n x y p = refl
 enough-step false n x y p = rw (p refl)
 
@@ -24,7 +25,8 @@ enough : (f g n : ℕ) → n < f → n < g → digits f n ≡ digits g n
 unfolding digits
 enough zero g n h k = absurd (not-suc-le-zero h)
 enough (suc f) zero n h k = absurd (not-suc-le-zero k)
-enough (suc f) (suc g) n h k = enough-step (ltb n 10) n (digits f (n / 10)) (digits g (n / 10)) (λ e. let l : 10 ≤ n = ltb-false n 10 e in enough f g (n / 10) (omega arith) (omega arith))
+enough (suc f) (suc g) n h k = enough-step (ltb n 10) n (digits f (n / 10)) (digits g (n / 10))
+    (λ e. let l : 10 ≤ n = ltb-false n 10 e in enough f g (n / 10) (omega arith) (omega arith))
 
 -- ---- digit by digit
 
@@ -60,7 +62,8 @@ pub put-low : (d : List ℕ) (at n : ℕ) → n < 10 → at < length d → set d
 put-low d at n h k = rw (decimal-low n h) (paste-one d at (glyph n) k)
 
 pub put-high : (d : List ℕ) (at n : ℕ) → 10 ≤ n → at + length (decimal (n / 10)) < length d
-    → set (paste d at (decimal (n / 10)) (length (decimal (n / 10)))) (at + length (decimal (n / 10))) (glyph (n % 10)) ≡ paste d at (decimal n) (length (decimal n))
+    → set (paste d at (decimal (n / 10)) (length (decimal (n / 10)))) (at + length (decimal (n / 10))) (glyph (n % 10)) ≡ paste d at (decimal n)
+    (length (decimal n))
 put-high d at n h k =
     let p : List ℕ = decimal (n / 10) in
     let l : length (paste d at p (length p)) ≡ length d = length-paste d at p (length p) (omega arith) (omega arith) in

@@ -9,49 +9,55 @@ use lib.ListN.{length, getD, take, drop, length-drop, drop-of-length-le}
 use lib.Seq.{drop-cons, drop-drop}
 use lib.Dec.{eqb}
 use borrow.Author.Tests.{eq-eqb, ne-eqb, eqb-true}
-use Rattle.first.specs.Cases.{if}
-use Rattle.text.specs.Lines.{lf, grow, lines, firstLine}
+use Rattle.cases.specs.Cases.{if}
+use Rattle.text.specs.Lines.{lf, grow, lines, until, firstLine}
 
--- ---- the end of a line, character by character
+-- ---- up to a character, character by character
 
-module _ (text : List ℕ) (i : ℕ) (h : i < length text) where
-  pub end-here : getD text i 0 ≡ lf → length (firstLine (drop i text)) ≡ 0
-  unfolding firstLine
-  end-here e = rw (drop-cons text i 0 h, eq-eqb (getD text i 0) lf e)
+module _ (stop : ℕ) (text : List ℕ) (i : ℕ) (h : i < length text) where
+  pub end-here : getD text i 0 ≡ stop → length (until stop (drop i text)) ≡ 0
+  unfolding until
+  end-here e = rw (drop-cons text i 0 h, eq-eqb (getD text i 0) stop e)
 
-  pub end-on : (getD text i 0 ≡ lf → ⊥) → length (firstLine (drop i text)) ≡ suc (length (firstLine (drop (i + 1) text)))
-  unfolding firstLine
-  end-on e = rw (drop-cons text i 0 h, ne-eqb (getD text i 0) lf e, add-one)
+  pub end-on : (getD text i 0 ≡ stop → ⊥) → length (until stop (drop i text)) ≡ suc (length (until stop (drop (i + 1) text)))
+  unfolding until
+  end-on e = rw (drop-cons text i 0 h, ne-eqb (getD text i 0) stop e, add-one)
 
-pub end-last : (text : List ℕ) (i : ℕ) → length text ≤ i → length (firstLine (drop i text)) ≡ 0
-unfolding firstLine
-end-last text i h = rw (drop-of-length-le text h)
+pub end-last : (stop : ℕ) (text : List ℕ) (i : ℕ) → length text ≤ i → length (until stop (drop i text)) ≡ 0
+unfolding until
+end-last stop text i h = rw (drop-of-length-le text h)
 
--- ---- line by line
-
--- a first line is the text's front
+-- it is the text's front
 front-step : (b : Bool) (c : ℕ) (cs l : List ℕ) → l ≡ take (length l) cs → if b [] (c ∷ l) ≡ take (length (if b [] (c ∷ l))) (c ∷ cs)
 front-step true c cs l p = refl
 front-step false c cs l p = ap (λ (k : List ℕ). c ∷ k) p
 
-pub first-front : (t : List ℕ) → firstLine t ≡ take (length (firstLine t)) t
-unfolding firstLine
-first-front [] = refl
-first-front (c ∷ cs) = front-step (eqb c lf) c cs (firstLine cs) (first-front cs)
+pub until-front : (stop : ℕ) (t : List ℕ) → until stop t ≡ take (length (until stop t)) t
+unfolding until
+until-front stop [] = refl
+until-front stop (c ∷ cs) = front-step (eqb c stop) c cs (until stop cs) (until-front stop cs)
 
 -- no longer than the text
 within-step : (b : Bool) (c : ℕ) (cs l : List ℕ) → length l ≤ length cs → length (if b [] (c ∷ l)) ≤ length (c ∷ cs)
 within-step true c cs l h = omega arith
 within-step false c cs l h = omega arith
 
-pub first-within : (t : List ℕ) → length (firstLine t) ≤ length t
-unfolding firstLine
-first-within [] = omega arith
-first-within (c ∷ cs) = within-step (eqb c lf) c cs (firstLine cs) (first-within cs)
+pub until-within : (stop : ℕ) (t : List ℕ) → length (until stop t) ≤ length t
+unfolding until
+until-within stop [] = omega arith
+until-within stop (c ∷ cs) = within-step (eqb c stop) c cs (until stop cs) (until-within stop cs)
 
 -- so it ends within the text
+pub until-inside : (stop : ℕ) (text : List ℕ) (i : ℕ) → i ≤ length text → i + length (until stop (drop i text)) ≤ length text
+until-inside stop text i h = omega (arith, until-within stop (drop i text), length-drop i text)
+
+-- ---- line by line
+
+pub first-front : (t : List ℕ) → firstLine t ≡ take (length (firstLine t)) t
+first-front t = until-front lf t
+
 pub end-within : (text : List ℕ) (i : ℕ) → i ≤ length text → i + length (firstLine (drop i text)) ≤ length text
-end-within text i h = omega (arith, first-within (drop i text), length-drop i text)
+end-within text i h = until-inside lf text i h
 
 -- the first line, and the lines behind its LF
 lines-step : (b : Bool) (c : ℕ) (cs : List ℕ) → grow c (lines cs) ≡ (c ∷ firstLine cs) ∷ lines (drop (suc (length (firstLine cs))) cs)
@@ -60,7 +66,7 @@ lines-step true c cs p = refl
 lines-step false c cs p = p
 
 pub lines-first : (c : ℕ) (cs : List ℕ) → lines (c ∷ cs) ≡ firstLine (c ∷ cs) ∷ lines (drop (suc (length (firstLine (c ∷ cs)))) (c ∷ cs))
-unfolding lines firstLine
+unfolding lines until
 lines-first c [] = lines-step (eqb c lf) c [] refl
 lines-first c (d ∷ ds) = lines-step (eqb c lf) c (d ∷ ds) (rw (lines-first d ds))
 
@@ -96,7 +102,8 @@ joined-grow : (c : ℕ) (l : List ℕ) (ls : List (List ℕ)) → joined (grow c
 unfolding joined
 joined-grow c l ls = refl
 
-join-step : (b : Bool) (c : ℕ) (ls : List (List ℕ)) (t : List ℕ) → eqb c lf ≡ b → joined ls ≡ t → joined (grow c ls) ≡ c ∷ t → joined (if b ([] ∷ ls) (grow c ls)) ≡ c ∷ t
+join-step : (b : Bool) (c : ℕ) (ls : List (List ℕ)) (t : List ℕ) → eqb c lf ≡ b → joined ls ≡ t → joined (grow c ls) ≡ c ∷ t
+    → joined (if b ([] ∷ ls) (grow c ls)) ≡ c ∷ t
 unfolding joined
 join-step true c ls t e p q = rw (eqb-true c lf e, p)
 join-step false c ls t e p q = q

@@ -2,7 +2,7 @@
 use Prim.Native.Nat.{ℕ, zero, suc, _/_, _%_}
 use mathlib.Core.List.{List, [], _∷_, _++_}
 use lib.Dec.{ltb}
-use Rattle.first.specs.Cases.{if}
+use Rattle.cases.specs.Cases.{if}
 use Rattle.text.specs.Hex.{glyph}
 
 -- at most so many digits, the last one behind those of n / 10

@@ -4,7 +4,7 @@ use mathlib.Core.Bool.{Bool, true, not, _&&_}
 use mathlib.Core.List.{List, [], _∷_}
 use lib.ListN.{length}
 use lib.Dec.{eqb, ltb, leb}
-use Rattle.first.specs.Cases.{if}
+use Rattle.cases.specs.Cases.{if}
 
 -- the character of a digit: 48 is `0`, 97 is `a`
 abbrev pub glyph : ℕ → ℕ

@@ -2,7 +2,7 @@
 use Prim.Native.Nat.{ℕ}
 use mathlib.Core.List.{List, [], _∷_}
 use lib.Dec.{eqb}
-use Rattle.first.specs.Cases.{if}
+use Rattle.cases.specs.Cases.{if}
 
 abbrev pub lf : ℕ
 lf = 10
@@ -16,7 +16,11 @@ unfoldable pub lines : List ℕ → List (List ℕ)
 lines [] = []
 lines (c ∷ cs) = if (eqb c lf) ([] ∷ lines cs) (grow c (lines cs))
 
+-- the characters before the first that is `stop`
+unfoldable pub until : ℕ → List ℕ → List ℕ
+until stop [] = []
+until stop (c ∷ cs) = if (eqb c stop) [] (c ∷ until stop cs)
+
 -- the characters before the first LF
-unfoldable pub firstLine : List ℕ → List ℕ
-firstLine [] = []
-firstLine (c ∷ cs) = if (eqb c lf) [] (c ∷ firstLine cs)
+abbrev pub firstLine : List ℕ → List ℕ
+firstLine text = until lf text

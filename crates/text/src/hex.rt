@@ -3,7 +3,7 @@ ghost use mathlib.Core.Path.{_≡_};
 ghost use Prim.Native.Nat.{_+_, _*_, _≤_};
 ghost use lib.ListN.{length};
 ghost use lib.Seq.{paste};
-ghost use Rattle.wire.specs.Packet.{onto};
+ghost use Rattle.buffer.specs.Onto.{onto};
 ghost use Rattle.text.specs.Hex.{hexByte, isHex, fromHex, toHex};
 use crate::digit;
 

@@ -29,7 +29,8 @@ array-share-prefix-out : tie.Need-array-share-prefix-out
 array-share-prefix-out c = omega (arith, c .feed .ensures .1, simp length-append at (ap length (c .feed .ensures .0)))
 
 slice-aggregate-write-all : tie.Need-slice-aggregate-write-all
-slice-aggregate-write-all c = sym (length-take-le _ _ (omega (arith, c .before .feed .ensures .1, simp length-append at (ap length (c .before .feed .ensures .0)))))
+slice-aggregate-write-all c =
+    sym (length-take-le _ _ (omega (arith, c .before .feed .ensures .1, simp length-append at (ap length (c .before .feed .ensures .0)))))
 
 write-all-requires : tie.Need-write-all-requires
 write-all-requires c κs = search needs

@@ -7,21 +7,23 @@ use mathlib.Core.Bool.{Bool, true, false}
 use mathlib.Core.List.{List, [], _∷_, _++_}
 use lib.ListN.{length, getD}
 use lib.Dec.{ltb}
-use Rattle.first.specs.Cases.{Case, _⇒_, first, done}
+use Rattle.cases.specs.Cases.{Case, _⇒_, first, done}
 use Rattle.wire.specs.Packet.{headerLength, headerBytes, packetBytes}
 use Rattle.session.specs.declared.record.Session.{Session}
 use Rattle.session.specs.Record.{free, freshOf}
-use Rattle.session.specs.Calls.{sentOn, readOn, closedOn}
+use Rattle.session.specs.Changes.{sentOn, readOn, closedOn}
 use Rattle.table.specs.declared.end.Role.{Role}
 use Rattle.table.specs.declared.end.End.{End}
 use Rattle.table.specs.Slots.{holds, sessionOf, slotOf, lowestFree, full, smallestSid}
 use Rattle.table.specs.End.{putOf, changedOf}
 use Rattle.table.proofs.SlotAt.{At, at-holds, at-slot, at-session, at-end}
-use Rattle.smp.specs.Calling.{Limits, good, called, calling, shortStorage}
-use Rattle.smp.specs.Open.{isServer, openCases, openNumber, synHeader, openedEnd, openDone, openRefused, openOf, openPacket}
-use Rattle.smp.specs.Send.{sendCases, sendNumber, dataHeader, sendDone, sendRefused, sendOf, sendPacket}
-use Rattle.smp.specs.Read.{readCases, readNumber, oldestLength, oldestIn, ackOn, readDone, readRefused, readOf, readPayload, readAck}
-use Rattle.smp.specs.Close.{closeCases, closeNumber, finHeader, closeDone, closeRefused, closeOf, closePacket}
+use Rattle.table.specs.Limits.{Limits}
+use Rattle.table.specs.Well.{wellMade}
+use Rattle.calling.specs.Calling.{called, calling, shortStorage}
+use Rattle.open.specs.Open.{isServer, openCases, openNumber, synHeader, openedEnd, openDone, openRefused, openOf, openPacket}
+use Rattle.send.specs.Send.{sendCases, sendNumber, dataHeader, sendDone, sendRefused, sendOf, sendPacket}
+use Rattle.read.specs.Read.{readCases, readNumber, oldestLength, oldestIn, ackOn, readDone, readRefused, readOf, readPayload, readAck}
+use Rattle.close.specs.Close.{closeCases, closeNumber, finHeader, closeDone, closeRefused, closeOf, closePacket}
 
 -- ---- open
 
@@ -29,7 +31,7 @@ use Rattle.smp.specs.Close.{closeCases, closeNumber, finHeader, closeDone, clos
 abbrev pub openOn : Role → Bool → ℕ → List Case
 openOn role none room = isServer role ⇒ 2 ∷ none ⇒ 3 ∷ ltb room headerLength ⇒ 9 ∷ []
 
-module _ (lim : Limits) (e : End) (g : good lim e ≡ true) (u : e .up ≡ true) (room : ℕ) where
+module _ (lim : Limits) (e : End) (g : wellMade lim e ≡ true) (u : e .up ≡ true) (room : ℕ) where
   open-number : openNumber lim e room ≡ first (openOn (e .role) (full (e .slots)) room)
   unfolding openNumber first
   open-number =
@@ -49,7 +51,7 @@ module _ (lim : Limits) (e : End) (g : good lim e ≡ true) (u : e .up ≡ true)
 
 -- ---- the calls that name a SID: 12 and 1 never come
 
-module _ (lim : Limits) (e : End) (g : good lim e ≡ true) (u : e .up ≡ true) (sid : ℕ) where
+module _ (lim : Limits) (e : End) (g : wellMade lim e ≡ true) (u : e .up ≡ true) (sid : ℕ) where
   called-as : (b : Bool) → holds sid (e .slots) ≡ b → (cs : List Case) → first (calling lim e sid ++ cs) ≡ first (called true true b ++ cs)
   called-as b h cs =
       ap (λ (t : Bool). first (called t (e .up) (holds sid (e .slots)) ++ cs)) g
@@ -134,7 +136,8 @@ module _ (lim : Limits) (e : End) (g : good lim e ≡ true) (u : e .up ≡ true)
         ∙ ap (λ (d : End). done m (sendDone (headerLength + length payload) d) (sendRefused m e)) (at-end a sentOn)
 
     pub send-packet : (payload : List ℕ) (room : ℕ) → sendPacket lim e sid payload room
-        ≡ done (first (sendCases lim (getD (e .slots) i free) (length payload) room)) (packetBytes (dataHeader (getD (e .slots) i free) (length payload)) payload) []
+        ≡ done (first (sendCases lim (getD (e .slots) i free) (length payload) room))
+        (packetBytes (dataHeader (getD (e .slots) i free) (length payload)) payload) []
     unfolding sendPacket
     send-packet payload room =
         ap (λ (n : ℕ). done n (packetBytes (dataHeader (sessionOf sid (e .slots)) (length payload)) payload) []) (send-number (length payload) room)

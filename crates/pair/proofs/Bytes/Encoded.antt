@@ -8,7 +8,7 @@ use mathlib.Core.Option.{Option, none, some}
 use lib.ListN.{length}
 use lib.Dec.{leb, eqb}
 use borrow.Author.Tests.{le-leb}
-use Rattle.first.proofs.Tests.{and-both}
+use Rattle.cases.proofs.Tests.{and-both}
 use Rattle.wire.specs.declared.header.Header.{Header}
 use Rattle.wire.specs.declared.kind.Kind.{Kind}
 use Rattle.wire.specs.declared.kind.Kind.the-variants.{Syn, Ack, Fin, Data}
@@ -17,7 +17,7 @@ use Rattle.wire.specs.Packet.{headerLength, headerOf, headerBytes, packetBytes,
 use Rattle.wire.proofs.Headers.{header-length, packet-length}
 use Rattle.wire.proofs.Whole.{Whole, header-whole}
 use Rattle.session.specs.Record.{window}
-use Rattle.smp.specs.Open.{synHeader}
+use Rattle.open.specs.Open.{synHeader}
 use Rattle.lane.proofs.Half.{Bytes, Packet, dat, ack, fin, seqnumOf, wndwOf}
 
 abbrev pub kindOf : Packet → Kind

@@ -4,22 +4,25 @@ use mathlib.Core.Path.{_≡_, refl, ap, _∙_}
 use mathlib.Core.Bool.{Bool, true, false, not}
 use mathlib.Core.List.{List, [], _∷_, _++_}
 use lib.ListN.{length, take, getD}
-use Rattle.first.specs.Cases.{Case, _⇒_, if, first}
+use Rattle.cases.specs.Cases.{Case, _⇒_, if, first}
 use Rattle.wire.specs.declared.header.Header.{Header}
 use Rattle.wire.specs.declared.kind.Kind.{Kind}
 use Rattle.wire.specs.Packet.{headerLength}
 use Rattle.session.specs.declared.record.Session.{Session}
 use Rattle.session.specs.Record.{free, freshOf, finReceived}
-use Rattle.session.specs.Taken.{windowInRange, seqnumInRange, cellOf}
+use Rattle.effect.specs.Taken.{windowInRange, seqnumInRange, cellOf}
 use Rattle.table.specs.declared.end.Role.{Role}
 use Rattle.table.specs.declared.end.Role.the-variants.{Server}
 use Rattle.table.specs.declared.end.End.{End}
 use Rattle.table.specs.Slots.{holds, sessionOf, slotOf, lowestFree, full}
 use Rattle.table.specs.End.{putOf}
 use Rattle.table.proofs.SlotAt.{At, at-holds, at-slot, at-session, at-end}
-use Rattle.smp.specs.Calling.{Limits, good, shortStorage}
-use Rattle.smp.specs.Open.{synHeader}
-use Rattle.smp.specs.Take.{synCases, otherCases, takeNumber, takenOn, takeDone, takeOf, kept, takeStorage}
+use Rattle.table.specs.Limits.{Limits}
+use Rattle.table.specs.Well.{wellMade}
+use Rattle.calling.specs.Calling.{shortStorage}
+use Rattle.open.specs.Open.{synHeader}
+use Rattle.judge.specs.Number.{synCases, otherCases, takeNumber}
+use Rattle.take.specs.Take.{takenOn, takeDone, takeOf, kept, takeStorage}
 use Rattle.lane.proofs.Half.{Packet}
 use Rattle.pair.proofs.Bytes.Encoded.{kindOf, payloadOf, headerFor, packetFor, synFor}
 use Rattle.pair.proofs.Bytes.TakeFront.{packet-number, packet-answer, packet-storage, syn-number, syn-answer, syn-storage}
@@ -32,7 +35,7 @@ pub held-cases : (lim : Limits) (k : Kind) (x : Session) (h : Header) → first 
 unfolding first
 held-cases lim k x h = refl
 
-module _ (lim : Limits) (small : headerLength + lim .place < 2 ^ 32) (e : End) (g : good lim e ≡ true) (u : e .up ≡ true) (sid : ℕ) (low : sid < 2 ^ 16)
+module _ (lim : Limits) (small : headerLength + lim .place < 2 ^ 32) (e : End) (g : wellMade lim e ≡ true) (u : e .up ≡ true) (sid : ℕ) (low : sid < 2 ^ 16)
     (p : Packet) (fits : length (payloadOf p) ≤ lim .place) (rest : List ℕ) (n : ℕ) (l : length (packetFor sid p) ≤ n) where
   -- slot i holds it
   module _ (i : ℕ) (a : At sid i (e .slots)) where
@@ -67,8 +70,9 @@ syn-clear : (sid : ℕ) → first (synCases Server false false (synHeader sid)) 
 unfolding first
 syn-clear sid = refl
 
-module _ (lim : Limits) (small : headerLength + lim .place < 2 ^ 32) (e : End) (g : good lim e ≡ true) (u : e .up ≡ true) (sid : ℕ) (low : sid < 2 ^ 16)
-    (rest : List ℕ) (n : ℕ) (l : length (synFor sid) ≤ n) (server : e .role ≡ Server) (new : holds sid (e .slots) ≡ false) (room : full (e .slots) ≡ false) where
+module _ (lim : Limits) (small : headerLength + lim .place < 2 ^ 32) (e : End) (g : wellMade lim e ≡ true) (u : e .up ≡ true) (sid : ℕ) (low : sid < 2 ^ 16)
+    (rest : List ℕ) (n : ℕ) (l : length (synFor sid) ≤ n) (server : e .role ≡ Server) (new : holds sid (e .slots) ≡ false)
+    (room : full (e .slots) ≡ false) where
   begun-number : (st : ℕ) → takeNumber lim e (take n (synFor sid ++ rest)) st ≡ if (shortStorage lim e st) 9 0
   begun-number st =
       syn-number lim small e g u sid low rest n l st

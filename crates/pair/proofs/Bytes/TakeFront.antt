@@ -8,7 +8,7 @@ use mathlib.Core.Bool.{Bool, true, false}
 use mathlib.Core.List.{List, [], _++_, append-nil}
 use lib.ListN.{length, take, drop}
 use lib.Seq.{take-nil, paste, take-append-le}
-use Rattle.first.specs.Cases.{if, first}
+use Rattle.cases.specs.Cases.{if, first}
 use Rattle.wire.specs.declared.header.Header.{Header}
 use Rattle.wire.specs.declared.kind.Kind.{Kind}
 use Rattle.wire.specs.declared.kind.Kind.the-variants.{Syn}
@@ -16,19 +16,22 @@ use Rattle.wire.specs.declared.kind.Flags.the-variants.{One}
 use Rattle.wire.specs.Packet.{headerLength, readHeader, packetBytes}
 use Rattle.wire.proofs.Whole.{Whole, whole-flags, front-header, cut-length, whole-there, payload-front, whole-front}
 use Rattle.session.specs.declared.record.Session.{Session}
-use Rattle.session.specs.declared.taken.Cell.{Cell}
-use Rattle.session.specs.declared.taken.Cell.the-variants as cell
+use Rattle.effect.specs.declared.cell.Cell.{Cell}
+use Rattle.effect.specs.declared.cell.Cell.the-variants as cell
 use Rattle.session.specs.Record.{freshOf}
-use Rattle.session.specs.Taken.{cellOf}
+use Rattle.effect.specs.Taken.{cellOf}
 use Rattle.table.specs.declared.end.Role.{Role}
 use Rattle.table.specs.declared.end.End.{End}
 use Rattle.table.specs.Slots.{holds, sessionOf, slotOf, lowestFree, full}
 use Rattle.table.specs.Storage.{placeStart}
 use Rattle.table.specs.End.{putOf, changedOf}
-use Rattle.smp.specs.Calling.{Limits, good, shortStorage}
-use Rattle.smp.specs.Open.{synHeader}
-use Rattle.smp.specs.Take.{synCases, otherCases, kindCases, takeNumber, missing, takenOn, takenEnd, takeDone, takeRefused, takeOf, kept, takenStorage, takeStorage}
-use Rattle.smp.proofs.SynKeeps.{syn-keeps}
+use Rattle.table.specs.Limits.{Limits}
+use Rattle.table.specs.Well.{wellMade}
+use Rattle.calling.specs.Calling.{shortStorage}
+use Rattle.open.specs.Open.{synHeader}
+use Rattle.judge.specs.Number.{synCases, otherCases, kindCases, takeNumber, missing}
+use Rattle.take.specs.Take.{takenOn, takenEnd, takeDone, takeRefused, takeOf, kept, takenStorage, takeStorage}
+use Rattle.take.proofs.SynKeeps.{syn-keeps}
 use Rattle.lane.proofs.Half.{Packet, dat, ack, fin}
 use Rattle.pair.proofs.Bytes.Encoded.{kindOf, payloadOf, headerFor, packetFor, synFor, packet-whole, syn-whole, syn-bytes, packet-size, syn-size}
 use Rattle.pair.proofs.Bytes.TakeGate.{number-under, number-cut, number-whole, answer-refused, storage-refused, answer-done, storage-done}
@@ -50,7 +53,8 @@ waits-storage lim e bytes lent short n = storage-refused lim e bytes lent (if sh
 -- ---- what is stored of a packet: its payload, at its place; what stands behind the packet isn't stored
 
 module _ {place : ℕ} {h : Header} {k : Kind} {v : List ℕ} (w : Whole place h k v) (lim : Limits) (i : ℕ) (storage : List ℕ) where
-  kept-payload : (more : List ℕ) → kept lim cell.Store i h (packetBytes h v ++ more) storage ≡ paste storage (placeStart (lim .place) i (h .seqnum)) v (length v)
+  kept-payload : (more : List ℕ) → kept lim cell.Store i h (packetBytes h v ++ more) storage ≡ paste storage (placeStart (lim .place) i (h .seqnum)) v
+      (length v)
   kept-payload more =
       let at = placeStart (lim .place) i (h .seqnum) in
       let m : h .length - headerLength ≡ length v = omega (arith, w .long) in
@@ -58,7 +62,8 @@ module _ {place : ℕ} {h : Header} {k : Kind} {v : List ℕ} (w : Whole place h
       ∙ ap (paste storage at (v ++ more)) m
       ∙ ap (λ (b : List ℕ). take at storage ++ b ++ drop (at + length v) storage) (take-append-le (length v) v more (omega arith))
 
-  kept-front : (c : Cell) (rest : List ℕ) (n : ℕ) → h .length ≤ n → kept lim c i h (take n (packetBytes h v ++ rest)) storage ≡ kept lim c i h (packetBytes h v) storage
+  kept-front : (c : Cell) (rest : List ℕ) (n : ℕ) → h .length ≤ n → kept lim c i h (take n (packetBytes h v ++ rest)) storage ≡ kept lim c i h
+      (packetBytes h v) storage
   kept-front cell.Store rest n l =
       ap (λ (b : List ℕ). kept lim cell.Store i h b storage) (whole-front w rest n l)
       ∙ kept-payload (take (n - h .length) rest)
@@ -71,7 +76,7 @@ module _ {place : ℕ} {h : Header} {k : Kind} {v : List ℕ} (w : Whole place h
 
 -- ---- at an end that is well made and up
 
-module _ (lim : Limits) (e : End) (g : good lim e ≡ true) (u : e .up ≡ true) where
+module _ (lim : Limits) (e : End) (g : wellMade lim e ≡ true) (u : e .up ≡ true) where
   -- the channel is empty
   pub nothing-number : (n st : ℕ) → takeNumber lim e (take n []) st ≡ if (shortStorage lim e st) 9 10
   nothing-number n st = number-under lim e g u (take n []) st (omega (arith, ap (length {A = ℕ}) (take-nil n)))
@@ -97,7 +102,8 @@ module _ (lim : Limits) (e : End) (g : good lim e ≡ true) (u : e .up ≡ true)
       is = front-header w rest n (omega (arith, w .sound .low))
 
       whole-number : (st : ℕ) → takeNumber lim e (take n (packetBytes h v ++ rest)) st
-          ≡ if (shortStorage lim e st) 9 (first (kindCases lim (One k) (e .role) (holds (h .sid) (e .slots)) (full (e .slots)) (sessionOf (h .sid) (e .slots)) h))
+          ≡ if (shortStorage lim e st) 9 (first (kindCases lim (One k) (e .role) (holds (h .sid) (e .slots)) (full (e .slots))
+          (sessionOf (h .sid) (e .slots)) h))
       whole-number st = number-whole lim e g u bytes st h k is (w .sound) (whole-there w rest n l)
 
       whole-answer : (st : ℕ) → takeNumber lim e (take n (packetBytes h v ++ rest)) st ≡ 0
@@ -123,7 +129,7 @@ other-end (dat q v b) h e = refl
 other-end (ack q v) h e = refl
 other-end (fin q v) h e = refl
 
-module _ (lim : Limits) (small : headerLength + lim .place < 2 ^ 32) (e : End) (g : good lim e ≡ true) (u : e .up ≡ true) (sid : ℕ) (low : sid < 2 ^ 16)
+module _ (lim : Limits) (small : headerLength + lim .place < 2 ^ 32) (e : End) (g : wellMade lim e ≡ true) (u : e .up ≡ true) (sid : ℕ) (low : sid < 2 ^ 16)
     (p : Packet) (fits : length (payloadOf p) ≤ lim .place) (rest : List ℕ) (n : ℕ) where
   w : Whole (lim .place) (headerFor sid p) (kindOf p) (payloadOf p)
   w = packet-whole (lim .place) small sid low p fits
@@ -153,7 +159,7 @@ module _ (lim : Limits) (small : headerLength + lim .place < 2 ^ 32) (e : End) (
 
 -- ---- a SYN: it changes no stored byte
 
-module _ (lim : Limits) (small : headerLength + lim .place < 2 ^ 32) (e : End) (g : good lim e ≡ true) (u : e .up ≡ true) (sid : ℕ) (low : sid < 2 ^ 16)
+module _ (lim : Limits) (small : headerLength + lim .place < 2 ^ 32) (e : End) (g : wellMade lim e ≡ true) (u : e .up ≡ true) (sid : ℕ) (low : sid < 2 ^ 16)
     (rest : List ℕ) (n : ℕ) where
   s : Whole (lim .place) (synHeader sid) Syn []
   s = syn-whole (lim .place) small sid low
@@ -179,7 +185,8 @@ module _ (lim : Limits) (small : headerLength + lim .place < 2 ^ 32) (e : End) (
         → takeOf lim e (take n (synFor sid ++ rest)) st ≡ takeDone (synHeader sid) (putOf (lowestFree (e .slots)) (freshOf sid) e)
     syn-answer st z = ap (λ (b : List ℕ). takeOf lim e b st) bytes-are ∙ whole-answer lim e g u s rest n syn-all st (sym (number-is st) ∙ z)
 
-    pub syn-storage : (lent : List ℕ) → takeNumber lim e (take n (synFor sid ++ rest)) (length lent) ≡ 0 → takeStorage lim e (take n (synFor sid ++ rest)) lent ≡ lent
+    pub syn-storage : (lent : List ℕ) → takeNumber lim e (take n (synFor sid ++ rest)) (length lent) ≡ 0
+        → takeStorage lim e (take n (synFor sid ++ rest)) lent ≡ lent
     syn-storage lent z =
         ap (λ (b : List ℕ). takeStorage lim e b lent) bytes-are
         ∙ whole-storage lim e g u s rest n syn-all lent (sym (number-is (length lent)) ∙ z)

@@ -8,8 +8,8 @@ use mathlib.Core.List.{List, _∷_, _++_}
 use lib.ListN.{length}
 use lib.Dec.{ltb}
 use borrow.Author.Tests.{ne-eqb, lt-ltb, le-ltb}
-use Rattle.first.specs.Cases.{_⇒_, if, first}
-use Rattle.first.proofs.First.{done-0, done-not, numbered, first-append}
+use Rattle.cases.specs.Cases.{_⇒_, if, first}
+use Rattle.cases.proofs.First.{done-0, done-not, numbered, first-append}
 use Rattle.wire.specs.declared.header.Header.{Header}
 use Rattle.wire.specs.declared.kind.Kind.{Kind}
 use Rattle.wire.specs.declared.kind.Flags.the-variants.{One}
@@ -20,8 +20,11 @@ use Rattle.session.specs.declared.record.Session.{Session}
 use Rattle.table.specs.declared.end.Role.{Role}
 use Rattle.table.specs.declared.end.End.{End}
 use Rattle.table.specs.Slots.{holds, sessionOf, full}
-use Rattle.smp.specs.Calling.{Limits, good, shortStorage}
-use Rattle.smp.specs.Take.{kindCases, packetCases, takeCases, takeNumber, missing, takenEnd, takeDone, takeRefused, takeOf, takenStorage, takeStorage}
+use Rattle.table.specs.Limits.{Limits}
+use Rattle.table.specs.Well.{wellMade}
+use Rattle.calling.specs.Calling.{shortStorage}
+use Rattle.judge.specs.Number.{kindCases, packetCases, takeCases, takeNumber, missing}
+use Rattle.take.specs.Take.{takenEnd, takeDone, takeRefused, takeOf, takenStorage, takeStorage}
 
 -- ---- the number
 
@@ -36,7 +39,7 @@ sound-cases lim k role held none x h given s =
     ∙ done-0 (headerNumber (lim .place) h) (first after) (headerNumber (lim .place) h) (is-0 (lim .place) h (s .smid) k f (s .fits))
     ∙ ap (λ t. if (ltb given (h .length)) 10 (first (kindCases lim t role held none x h))) f
 
-module _ (lim : Limits) (e : End) (g : good lim e ≡ true) (u : e .up ≡ true) (bytes : List ℕ) (st : ℕ) where
+module _ (lim : Limits) (e : End) (g : wellMade lim e ≡ true) (u : e .up ≡ true) (bytes : List ℕ) (st : ℕ) where
   -- the number by the cases of a packet with that header
   abbrev own : Header → ℕ
   own h = first (packetCases lim (e .role) (holds (h .sid) (e .slots)) (full (e .slots)) (sessionOf (h .sid) (e .slots)) h (length bytes))
@@ -45,7 +48,8 @@ module _ (lim : Limits) (e : End) (g : good lim e ≡ true) (u : e .up ≡ true)
   gate : takeNumber lim e bytes st ≡ if (shortStorage lim e st) 9 (if (ltb (length bytes) headerLength) 10 (own (readHeader bytes)))
   unfolding takeNumber first
   gate =
-      let cs = packetCases lim (e .role) (holds (readHeader bytes .sid) (e .slots)) (full (e .slots)) (sessionOf (readHeader bytes .sid) (e .slots)) (readHeader bytes)
+      let cs = packetCases lim (e .role) (holds (readHeader bytes .sid) (e .slots)) (full (e .slots)) (sessionOf (readHeader bytes .sid) (e .slots))
+      (readHeader bytes)
       (length bytes) in
       ap (λ (b : Bool). first (takeCases b (e .up) (shortStorage lim e st) (length bytes) ++ cs)) g
       ∙ ap (λ (b : Bool). first (takeCases true b (shortStorage lim e st) (length bytes) ++ cs)) u

@@ -7,7 +7,7 @@ use mathlib.Core.Logic.{_⊎_, inl, inr}
 use mathlib.Core.Bool.{true}
 use mathlib.Core.List.{List, [], _∷_}
 use lib.ListN.{getD, replicate, length-replicate, getD-replicate}
-use Rattle.first.proofs.Tests.{never}
+use Rattle.cases.proofs.Tests.{never}
 use Rattle.session.specs.declared.record.Session.{Session}
 use Rattle.session.specs.Record.{free, inUse}
 use Rattle.lane.specs.Side.{Side}
@@ -55,7 +55,8 @@ pub data Along (slots place : ℕ) : Scene → World → List Step → List Act 
   over : {x : Scene} {W : World} → Mirror slots place x W → Along slots place x W [] []
   rests : {x : Scene} {W : World} {s : Step} {ss : List Step} {h : List Act} → Mirror slots place x W → Rested slots place x W s
       → Along slots place (entry (sized place) x s .after) W ss h → Along slots place x W (s ∷ ss) h
-  acts : {x : Scene} {W : World} {s : Step} {ss : List Step} {a : Act} {h : List Act} → Mirror slots place x W → Performs slots place x W s a → Acted slots place x W s a
+  acts : {x : Scene} {W : World} {s : Step} {ss : List Step} {a : Act} {h : List Act} → Mirror slots place x W → Performs slots place x W s a
+      → Acted slots place x W s a
       → Along slots place (entry (sized place) x s .after) (act a W) ss h → Along slots place x W (s ∷ ss) (a ∷ h)
 
 pub record Run (slots place : ℕ) (x : Scene) (W : World) (ss : List Step) : Type 0 where
@@ -69,7 +70,8 @@ module _ {slots place : ℕ} where
   run z {x} {W} m (s ∷ ss) = by (classify z m s) (λ (U : World) (v : Mirror slots place (entry (sized place) x s .after) U). run z v ss)
     where
       by : Rested slots place x W s ⊎ ((a : Act) × Performs slots place x W s a)
-          → ((U : World) → Mirror slots place (entry (sized place) x s .after) U → Run slots place (entry (sized place) x s .after) U ss) → Run slots place x W (s ∷ ss)
+          → ((U : World) → Mirror slots place (entry (sized place) x s .after) U → Run slots place (entry (sized place) x s .after) U ss)
+          → Run slots place x W (s ∷ ss)
       by (inl r) f = let t = f W (r .mirror) in record { acts = t .acts; along = rests m r (t .along) }
       by (inr p) f =
           let d = performs-acts z m (p .1) in

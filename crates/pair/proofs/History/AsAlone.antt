@@ -8,7 +8,7 @@ use mathlib.Core.List.{List, [], _∷_, map}
 use mathlib.Core.Option.{Option, none, some}
 use lib.ListN.{length}
 use lib.Dec.{eqb}
-use Rattle.first.specs.Cases.{if}
+use Rattle.cases.specs.Cases.{if}
 use Rattle.wire.specs.declared.kind.Kind.{Kind}
 use Rattle.wire.specs.declared.kind.Kind.the-variants.{Syn}
 use Rattle.wire.specs.Packet.{headerLength, bytes, headerBytes, headerOf, packetBytes, flagsValue}
@@ -32,8 +32,8 @@ use Rattle.pair.specs.Claims.{numberless, own, aloneStep, plainReply}
 use Rattle.pair.proofs.Bytes.Encoded.{kindOf, payloadOf, synFor, syn-bytes, packet-size, emitted, packetFor, syn-size}
 use Rattle.pair.proofs.Mirror.Scene.{Mirror}
 use Rattle.pair.proofs.Mirror.Facts.{none-held, none-listed, tooShort}
-use Rattle.pair.proofs.Steps.Performs.{outReply, headReply, turnReply, readRoom, Given, Performs, opening, greeting, taking, sending, reading, closing}
-use Rattle.pair.proofs.Steps.Performs.{takingReply, actReply, Lengths, Acted}
+use Rattle.pair.proofs.Steps.Performs.{outReply, headReply, turnReply, readRoom, Given, Performs, opening, greeting, taking, sending, reading}
+use Rattle.pair.proofs.Steps.Performs.{closing, takingReply, actReply, Lengths, Acted}
 use Rattle.pair.proofs.Steps.Classify.{performs-acts}
 use Rattle.pair.proofs.History.Along.{Along, over, rests, acts}
 use Rattle.pair.proofs.History.Events.{own-none, own-some}
@@ -112,7 +112,8 @@ turn-alone {W = W} k n c s =
     ∙ ap₂ (λ (sid : ℕ) (L : Lane). turnReply sid c (moved k c L .out) (toward k L)) (sym (s .sid)) (s .lane)
 
 module _ {slots place : ℕ} {x : Scene} {W : World} {y : Scene} {A : World} where
-  follows : {s : Step} {a : Act} → Mirror slots place x W → Performs slots place x W s a → Beside slots place (owner W a) x W y A → Follows slots (owner W a) W A a
+  follows : {s : Step} {a : Act} → Mirror slots place x W → Performs slots place x W s a → Beside slots place (owner W a) x W y A
+      → Follows slots (owner W a) W A a
   follows {a = a} m p b = sim-act (m .inv) (b .sim) a (performs-fits m p) refl
 
   -- alone it performs the same act

@@ -9,8 +9,8 @@ use mathlib.Core.Bool.{Bool, true, false, cond}
 use mathlib.Core.List.{List, [], _∷_, _++_}
 use mathlib.Core.Option.{none, some}
 use lib.Dec.{eqb, leb→le}
-use Rattle.first.specs.Cases.{if, done}
-use Rattle.first.proofs.First.{done-not}
+use Rattle.cases.specs.Cases.{if, done}
+use Rattle.cases.proofs.First.{done-not}
 use Rattle.lane.specs.Side.{Side, client, server, other}
 use Rattle.lane.proofs.Half.{Bytes, Out}
 use Rattle.lane.proofs.Outcomes.{send-all, read-all, close-all}
@@ -75,7 +75,8 @@ took-is (suc n) p = done-not (suc n) (p ∷ []) [] (omega arith)
 
 module _ {slots place : ℕ} {x : Scene} {W : World} where
   -- what the lane's step hands over
-  event-of : (s : Step) (k : Side) (n : ℕ) (c : lane.Call) → Mirror slots place x W → Performs slots place x W s (turn k n c) → Acted slots place x W s (turn k n c)
+  event-of : (s : Step) (k : Side) (n : ℕ) (c : lane.Call) → Mirror slots place x W → Performs slots place x W s (turn k n c)
+      → Acted slots place x W s (turn k n c)
       → Shows (entry (sized place) x s) (event (W .lanes n) (record { side = k; call = c }))
   event-of s k n c m (taking {p = p} {l = l} e g) d = record {
     side = refl;
@@ -162,7 +163,8 @@ module _ {slots place : ℕ} (n : ℕ) where
   act-agrees {s = s} t (turn k j c) m p d g = both-show (eqb j n) (event-of s k j c m p d) g
 
   -- THEOREM: a session's own entries agree with its lane's events
-  run-agrees : {x : Scene} {W : World} {ss : List Step} {t : List Act} → Along slots place x W ss t → Agrees (own n (history (sized place) x ss)) (eventsOf n W t)
+  run-agrees : {x : Scene} {W : World} {ss : List Step} {t : List Act} → Along slots place x W ss t
+      → Agrees (own n (history (sized place) x ss)) (eventsOf n W t)
   unfolding history own
   run-agrees (over m) = agrees-none
   run-agrees {x} {W} {ss = s ∷ ss} {t} (rests m r l) =

@@ -30,7 +30,8 @@ use Rattle.pair.proofs.History.Along.{Along, over, rests, acts}
 use Rattle.pair.proofs.History.Holding.{held}
 
 -- a packet whose FLAGS are FIN's is a FIN
-fin-only : {slots : ℕ} {W : World} → WInv slots W → (k : Side) (n : ℕ) (p : Packet) (l : List Item) → W .chan k ≡ pkt n p ∷ l → flagsValue (kindOf p) ≡ flagsValue Fin
+fin-only : {slots : ℕ} {W : World} → WInv slots W → (k : Side) (n : ℕ) (p : Packet) (l : List Item) → W .chan k ≡ pkt n p ∷ l
+    → flagsValue (kindOf p) ≡ flagsValue Fin
     → T (ended (stOf k (own W k n deliver .lanes n)))
 fin-only i k n (dat q v b) l e f = absurd (omega arith)
 fin-only i k n (ack q v) l e f = absurd (omega arith)

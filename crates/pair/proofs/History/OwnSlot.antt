@@ -12,19 +12,19 @@ use lib.ListN.{length, getD, take}
 use lib.Seq.{getD-set-other}
 use lib.Dec.{eqb}
 use borrow.Author.Tests.{eq-eqb}
+use Rattle.buffer.proofs.Ranges.{Outside, below, above}
 use Rattle.wire.specs.declared.header.Header.{Header}
 use Rattle.wire.specs.declared.kind.Kind.the-variants.{Syn}
 use Rattle.wire.specs.Packet.{flagsValue}
 use Rattle.session.specs.declared.record.Session.{Session}
 use Rattle.session.specs.Record.{free, inUse, freshOf}
-use Rattle.session.specs.Taken.{cellOf}
+use Rattle.effect.specs.Taken.{cellOf}
 use Rattle.table.specs.Slots.{lowestFree}
 use Rattle.table.specs.End.{putOf}
 use Rattle.table.proofs.Lowest.{lowest-unused}
-use Rattle.table.proofs.Parts.{Outside, below, above}
-use Rattle.smp.specs.declared.take.Taken.{Taken}
-use Rattle.smp.specs.Open.{synHeader}
-use Rattle.smp.specs.Take.{takenOn, takeDone, takeOf}
+use Rattle.take.specs.declared.Taken.{Taken}
+use Rattle.open.specs.Open.{synHeader}
+use Rattle.take.specs.Take.{takenOn, takeDone, takeOf}
 use Rattle.lane.specs.Side.{Side, other, server}
 use Rattle.lane.proofs.World.{Item, syn, World}
 use Rattle.lane.proofs.Acts.{Act, greet}
@@ -59,10 +59,12 @@ module _ (place : ℕ) (x : Scene) (k : Side) (given lent : ℕ) where
   party : made .after .world k ≡ acted (did (sized place) (Take given lent) p) p
   party = with-own k (acted (did (sized place) (Take given lent) p) p) (reached [] (x .world (other k))) (x .world)
 
-  filed : (i : ℕ) (y : Session) (h : Header) → takeOf (sized place) (p .end) (take given (p .coming)) (length (take lent (p .storage))) ≡ takeDone h (putOf i y (p .end))
+  filed : (i : ℕ) (y : Session) (h : Header) → takeOf (sized place) (p .end) (take given (p .coming)) (length (take lent (p .storage))) ≡ takeDone h
+      (putOf i y (p .end))
       → (n : ℕ) → made .whose ≡ some n → owners (Take given lent) p (made .whose) (made .reply) (x .book .notes k .owner) i ≡ n
       → inUse (slotAt x k i .state) ≡ not (eqb (h .flags) (flagsValue Syn))
-      → ((o : ℕ) → Outside (4 * place * i) (4 * place) o → getD (did (sized place) (Take given lent) p .storage) o 0 ≡ getD (p .storage) o 0) → OwnSlot place made
+      → ((o : ℕ) → Outside (4 * place * i) (4 * place) o → getD (did (sized place) (Take given lent) p .storage) o 0 ≡ getD (p .storage) o 0)
+      → OwnSlot place made
   filed i y h answer n whose owner found bytes = record {
     slot = i;
     session = whose ∙ ap some (sym (ap (λ (b : Notes). b .owner i) (with-own k _ _ (x .book .notes)) ∙ owner));

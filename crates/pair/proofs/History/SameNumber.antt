@@ -45,7 +45,8 @@ module _ {slots place : ℕ} (n : ℕ) where
       by (yes k) f = inr (f k)
       by (no k) f =
           let e : W .born ≡ n = omega arith in
-          let name : ends W (dial y ∷ t) .sid n ≡ y = sid-kept t (act (dial y) W) n (omega arith) ∙ ap (act (dial y) W .sid) (sym e) ∙ setNum-same (W .born) y (W .sid) in
+          let name : ends W (dial y ∷ t) .sid n ≡ y = sid-kept t (act (dial y) W) n (omega arith) ∙ ap (act (dial y) W .sid) (sym e)
+          ∙ setNum-same (W .born) y (W .sid) in
           inl (subst (λ (z : ℕ). OpenedAs n z (entry (sized place) x s)) (sym name) (opened-here p d e))
   run-opened {t = greet ∷ t} (acts m p d g) l h = inr (run-opened g l h)
   run-opened {t = turn k j c ∷ t} (acts m p d g) l h = inr (run-opened g l h)

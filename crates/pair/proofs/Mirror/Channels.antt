@@ -52,7 +52,8 @@ marked-one n (b ∷ bs) h = refl
 pub marks-same : (sid sid' : ℕ → ℕ) (b : ℕ) → ((j : ℕ) → j < b → sid j ≡ sid' j) → (l : List Item) → Below b l → map (markOf sid) l ≡ map (markOf sid') l
 marks-same sid sid' b f [] t = refl
 marks-same sid sid' b f (syn j ∷ l) t = ap₂ _∷_ (ap (λ (y : ℕ). record { session = j; bytes = synFor y }) (f j (t .0))) (marks-same sid sid' b f l (t .1))
-marks-same sid sid' b f (pkt j p ∷ l) t = ap₂ _∷_ (ap (λ (y : ℕ). record { session = j; bytes = packetFor y p }) (f j (t .0))) (marks-same sid sid' b f l (t .1))
+marks-same sid sid' b f (pkt j p ∷ l) t = ap₂ _∷_ (ap (λ (y : ℕ). record { session = j; bytes = packetFor y p }) (f j (t .0)))
+    (marks-same sid sid' b f l (t .1))
 
 -- what is emitted becomes the mark of its item
 pub mark-push : (sid : ℕ → ℕ) (n : ℕ) (o : Option Packet) (l : List Item) (ms : List Marked) → ms ≡ map (markOf sid) l
@@ -132,7 +133,8 @@ module _ {slots place : ℕ} {W : World} {k : Side} {p : Party} {b : Notes} (a :
 
 -- ---- a packet's SID has two bytes, and its payload is no longer than a place
 
-module _ {slots place : ℕ} {x : Scene} {W : World} (m : Mirror slots place x W) {k : Side} {n : ℕ} {p : Packet} {l : List Item} (e : W .chan k ≡ pkt n p ∷ l) where
+module _ {slots place : ℕ} {x : Scene} {W : World} (m : Mirror slots place x W) {k : Side} {n : ℕ} {p : Packet} {l : List Item}
+    (e : W .chan k ≡ pkt n p ∷ l) where
   pub packet-low : W .sid n < 2 ^ 16
   packet-low = let b : Below (W .born) (pkt n p ∷ l) = rw e at (items-below (m .inv) k) in m .low n (b .0)
 

@@ -8,7 +8,7 @@ use mathlib.Core.Bool.{Bool, true, false}
 use mathlib.Core.Option.{some}
 use lib.ListN.{length, take, length-take}
 use lib.Dec.{T, ltb}
-use Rattle.first.proofs.Tests.{is-false}
+use Rattle.cases.proofs.Tests.{is-false}
 use Rattle.session.specs.Record.{window, inUse}
 use Rattle.session.specs.Well.{InOrder}
 use Rattle.session.proofs.InOrder.{free-order}
@@ -16,7 +16,8 @@ use Rattle.table.specs.Slots.{holds, slotOf, lowestFree, full}
 use Rattle.table.specs.Storage.{storageLength}
 use Rattle.table.proofs.SlotAt.{At, at-holds, at-slot, slot-at, held-within, held-used, held-named, holds-none, parts-made}
 use Rattle.table.proofs.Lowest.{lowest-within, lowest-unused, full-used}
-use Rattle.smp.specs.Calling.{good, shortStorage}
+use Rattle.table.specs.Well.{wellMade}
+use Rattle.calling.specs.Calling.{shortStorage}
 use Rattle.lane.specs.Side.{Side}
 use Rattle.lane.proofs.Lane.{half, stOf}
 use Rattle.lane.proofs.Inv.{Ranges}
@@ -74,14 +75,14 @@ module _ {slots place : ℕ} {x : Scene} {W : World} (m : Mirror slots place x W
       (m .inv .tables k .apart (x .book .notes k .owner i) (x .book .notes k .owner j) (m .at k .filled i h u .listed) (m .at k .filled j l v .listed)
       (sym (slot-sid i h u) ∙ e ∙ slot-sid j l v))
 
-  pub good-at : good (sized place) (x .world k .end) ≡ true
-  good-at = parts-made window place (x .world k .end) (m .at k .up) (λ i h. each i (within i h)) (λ i j h l. apart i j (within i h) (within j l))
+  pub made-at : wellMade (sized place) (x .world k .end) ≡ true
+  made-at = parts-made (sized place) (x .world k .end) (m .at k .up) (λ i h. each i (within i h)) (λ i j h l. apart i j (within i h) (within j l))
 
   -- ---- a lane by its SID
 
   pub lane-at : (n : ℕ) → T (has n (W .table k)) → (f : SlotFor slots (x .world k) (x .book .notes k) n) → At (W .sid n) (f .index) (x .world k .end .slots)
   lane-at n t f =
-      slot-at window place (x .world k .end) good-at (W .sid n) (f .index) (omega (arith, f .within, m .at k .many)) (f .used)
+      slot-at (sized place) (x .world k .end) made-at (W .sid n) (f .index) (omega (arith, f .within, m .at k .many)) (f .used)
       (slot-sid (f .index) (f .within) (f .used) ∙ ap (W .sid) (f .owner))
 
   -- the slot of a lane stands for its half

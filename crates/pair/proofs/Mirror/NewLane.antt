@@ -11,7 +11,7 @@ use lib.ListN.{length-set}
 use lib.Seq.{getD-set-same, getD-set-other}
 use lib.Dec.{T, eqb}
 use borrow.Author.Tests.{eq-eqb}
-use Rattle.first.proofs.Tests.{never}
+use Rattle.cases.proofs.Tests.{never}
 use Rattle.session.specs.declared.record.Session.{Session}
 use Rattle.session.specs.Record.{inUse, free, freshOf}
 use Rattle.table.specs.Slots.{lowestFree, full}
@@ -94,7 +94,8 @@ module _ {slots place : ℕ} {W : World} {k : Side} {p : Party} {b : Notes} (a :
       listed = rw table (has-head n (W .table k));
       stands = rw (ap (slot p') q ∙ slot-new, name, st, body) (fresh-stands place j (p .storage) sid);
     })
-    filled' j h (before q u o) = rw o (let f = a .filled j h u in filled-kept (slot-old j q) refl (kept (b .owner j) (f .listed)) (listed' (b .owner j) (f .listed)) f)
+    filled' j h (before q u o) = rw o (let f = a .filled j h u in filled-kept (slot-old j q) refl (kept (b .owner j) (f .listed))
+        (listed' (b .owner j) (f .listed)) f)
 
     new-within : i < slots
     new-within = omega (arith, lowest-within (p .end .slots) room, a .many)

@@ -11,12 +11,12 @@ use mathlib.Core.Option.{Option, some}
 use lib.ListN.{length-set}
 use lib.Seq.{getD-set-same, getD-set-other}
 use lib.Dec.{T, eqb}
-use Rattle.first.proofs.Tests.{never}
+use Rattle.buffer.proofs.Ranges.{Agree}
+use Rattle.cases.proofs.Tests.{never}
 use Rattle.session.specs.declared.record.Session.{Session}
 use Rattle.session.specs.Record.{inUse, free}
 use Rattle.table.specs.declared.end.End.{End}
 use Rattle.table.specs.End.{putOf}
-use Rattle.table.proofs.Parts.{Agree}
 use Rattle.lane.specs.Side.{Side, other}
 use Rattle.lane.proofs.Half.{St, Body}
 use Rattle.lane.proofs.Lane.{Call, Lane, stOf, moved}
@@ -52,7 +52,8 @@ stepped x k p b who sent = record {
 }
 
 -- what the step of lane n, in slot i at side k, has to be
-pub record OwnStep (place : ℕ) (x : Scene) (W : World) (k : Side) (n : ℕ) (c : Call) (i : ℕ) (p : Party) (b : Notes) (who : Option ℕ) (sent : List ℕ) : Type 0 where
+pub record OwnStep (place : ℕ) (x : Scene) (W : World) (k : Side) (n : ℕ) (c : Call) (i : ℕ) (p : Party) (b : Notes) (who : Option ℕ)
+    (sent : List ℕ) : Type 0 where
   pub session : Session
   pub end : p .end ≡ putOf i session (x .world k .end)
   pub others : (j : ℕ) → j ≢ i → Agree (4 * place * j) (4 * place) (x .world k .storage) (p .storage)
@@ -77,7 +78,8 @@ module _ {place i : ℕ} {storage : List ℕ} {y : Session} {sid : ℕ} {st : St
 
 -- ---- the mirror after the step
 
-module _ {slots place : ℕ} {x : Scene} {W : World} (m : Mirror slots place x W) {k : Side} {n : ℕ} {c : Call} (t : T (has n (W .table k))) (r : Ready c n (W .chan k))
+module _ {slots place : ℕ} {x : Scene} {W : World} (m : Mirror slots place x W) {k : Side} {n : ℕ} {c : Call} (t : T (has n (W .table k)))
+    (r : Ready c n (W .chan k))
     (f : SlotFor slots (x .world k) (x .book .notes k) n) {p : Party} {b : Notes} {who : Option ℕ} {sent : List ℕ}
     (s : OwnStep place x W k n c (f .index) p b who sent) where
   abbrev p₁ : Party

@@ -8,8 +8,8 @@ use mathlib.Core.Bool.{Bool, true, false}
 use mathlib.Core.List.{List, [], _∷_}
 use lib.ListN.{length}
 use lib.Dec.{T, eqb}
-use Rattle.first.specs.Cases.{if}
-use Rattle.first.proofs.Tests.{never}
+use Rattle.cases.specs.Cases.{if}
+use Rattle.cases.proofs.Tests.{never}
 use Rattle.lane.proofs.Tables.{has, NoDup, has-head, has-cons, or-right, false-T, pigeon}
 
 -- one of the first n slots is in use and is j's
@@ -57,7 +57,11 @@ module _ (used : ℕ → Bool) (owner : ℕ → ℕ) where
     where
       by : (b : Bool) → used n ≡ b → NoDup (owners n) → NoDup (if b (owner n ∷ owners n) (owners n))
       by false e d = d
-      by true e d = (false-T (has (owner n) (owners n)) (λ t. let s = owner-has n (owner n) t in omega (arith, o (s .index) n (omega arith) (omega arith) (s .whose))), d)
+      by true e d = (
+        false-T (has (owner n) (owners n)) (λ t. let s = owner-has n (owner n) t in
+            omega (arith, o (s .index) n (omega arith) (omega arith) (s .whose))),
+        d,
+      )
 
   at-most : (n : ℕ) → length (owners n) ≤ n
   at-most zero = omega arith

@@ -8,8 +8,8 @@ use mathlib.Core.List.{List, [], _∷_, append-nil, _++_}
 use lib.ListN.{length, length-append, getD, take, drop}
 use lib.Dec.{ltb, eqb}
 use borrow.Author.Tests.{eq-eqb, ne-eqb}
-use Rattle.first.specs.Cases.{if}
-use Rattle.first.proofs.Tests.{never}
+use Rattle.cases.specs.Cases.{if}
+use Rattle.cases.proofs.Tests.{never}
 use Rattle.wire.specs.declared.header.Header.{Header}
 use Rattle.wire.specs.declared.kind.Kind.{Kind}
 use Rattle.wire.specs.declared.kind.Kind.the-variants.{Data, Fin, Ack}
@@ -19,14 +19,14 @@ use Rattle.session.specs.declared.record.State.the-variants.{FinSent}
 use Rattle.session.specs.declared.record.Session.{Session}
 use Rattle.session.specs.Counter.{plus, minus}
 use Rattle.session.specs.Record.{inUse, established, finSent, finReceived, unread, oldest, place}
-use Rattle.session.specs.Calls.{sentOn, withState, closedIn, closedOn, readOn}
+use Rattle.session.specs.Changes.{sentOn, withState, closedIn, closedOn, readOn}
 use Rattle.session.proofs.Wrap.{plus-counts, same-counts, place-counts, back-counts}
 use Rattle.table.specs.Storage.{placeStart}
-use Rattle.smp.specs.Send.{sendCases, dataHeader}
-use Rattle.smp.specs.Read.{oldestLength, readCases, ackHeader, ackOn, oldestIn}
-use Rattle.smp.specs.Close.{closeCases, finHeader}
-use Rattle.lane.proofs.Half.{Bytes, St, est, fs, fr, gone, Body, sOf, gOf, dat, Out, Room, sent, shut, tight, send, fin, ending, close, ack, later, cramped, readOne}
-use Rattle.lane.proofs.Half.{readLast, readE, readR, read}
+use Rattle.send.specs.Send.{sendCases, dataHeader}
+use Rattle.read.specs.Read.{oldestLength, readCases, ackHeader, ackOn, oldestIn}
+use Rattle.close.specs.Close.{closeCases, finHeader}
+use Rattle.lane.proofs.Half.{Bytes, St, est, fs, fr, gone, Body, sOf, gOf, dat, Out, Room, sent, shut, tight, send, fin, ending, close, ack, later}
+use Rattle.lane.proofs.Half.{cramped, readOne, readLast, readE, readR, read}
 use Rattle.lane.proofs.Inv.{Ranges}
 use Rattle.pair.specs.World.{sized}
 use Rattle.pair.proofs.Bytes.Encoded.{packetFor, headerFor, handed}
@@ -77,7 +77,8 @@ module _ {size i : ℕ} {storage : List ℕ} {x : Session} {sid : ℕ} {B : Body
 
 module _ {size i : ℕ} {storage : List ℕ} {x : Session} {sid : ℕ} {B : Body} where
   closed-packet : {s : St} → Stands size i storage x sid s B → headerBytes (finHeader x) ≡ packetFor sid (fin (sOf B) (gOf B))
-  closed-packet a = ap headerBytes (header-counts Fin headerLength (a .sid) (a .s) (a .g)) ∙ sym (append-nil (headerBytes (headerFor sid (fin (sOf B) (gOf B)))))
+  closed-packet a = ap headerBytes (header-counts Fin headerLength (a .sid) (a .s) (a .g))
+      ∙ sym (append-nil (headerBytes (headerFor sid (fin (sOf B) (gOf B)))))
 
   pub close-does : (s : St) → Stands size i storage x sid s B → inUse (stateOf s) ≡ true → (R : Room)
       → Does (Done size i storage (closedOn x) sid (headerBytes (finHeader x)) []) s B (closeCases x (R .buf)) (close R s B)
@@ -92,7 +93,12 @@ module _ {size i : ℕ} {storage : List ℕ} {x : Session} {sid : ℕ} {B : Body
   close-does fr a u R =
       does-skip (ap finSent (a .state))
       (does-test (ltb (R .buf) 16) _ refl (omega arith)
-      (does-done (ending gone B) refl (record { after = freed refl (ap (λ (st : State). closedIn st x) (a .state)); packet = closed-packet a; payload = refl })))
+      (does-done (ending gone B) refl (record {
+        after = freed refl (ap (λ (st : State). closedIn st x) (a .state));
+        packet = closed-packet a;
+        payload =
+            refl;
+      })))
   close-does gone a u R = never u
 
 -- ---- read

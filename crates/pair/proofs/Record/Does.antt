@@ -5,7 +5,7 @@ use native.Mathlib.Omega.{arith}
 use mathlib.Core.Path.{_≡_, refl, sym}
 use mathlib.Core.Bool.{Bool, true, false}
 use mathlib.Core.List.{List, [], _∷_}
-use Rattle.first.specs.Cases.{Case, _⇒_, first}
+use Rattle.cases.specs.Cases.{Case, _⇒_, first}
 use Rattle.session.specs.declared.record.Session.{Session}
 use Rattle.session.specs.Record.{inUse, free}
 use Rattle.lane.proofs.Half.{St, gone, Body, Out, refuse, unless}
@@ -43,7 +43,8 @@ module _ {D : Out → Type 0} {st : St} {B : Body} where
   does-stop p h = record { answer = rw p; done = λ e. absurd (omega (arith, rw p at e)); refused = λ _. rw p }
 
   -- a case that the half has too
-  pub does-test : {b : Bool} {k : ℕ} {cases : List Case} (t : Bool) (o : Out) → b ≡ t → 0 < k → Does D st B cases o → Does D st B (b ⇒ k ∷ cases) (unless t k st B o)
+  pub does-test : {b : Bool} {k : ℕ} {cases : List Case} (t : Bool) (o : Out) → b ≡ t → 0 < k → Does D st B cases o
+      → Does D st B (b ⇒ k ∷ cases) (unless t k st B o)
   does-test true o p h d = does-stop p h
   does-test false o p h d = does-skip p d
 

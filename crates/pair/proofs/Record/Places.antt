@@ -7,16 +7,16 @@ use mathlib.Core.Logic.{_≢_}
 use mathlib.Core.List.{List, [], _++_}
 use lib.ListN.{length, getD, set, take, drop, length-drop}
 use lib.Seq.{paste, getD-set-same, getD-set-other}
+use Rattle.buffer.proofs.Ranges.{Outside, Agree}
 use Rattle.wire.specs.declared.header.Header.{Header}
 use Rattle.wire.specs.Packet.{headerLength}
 use Rattle.session.specs.declared.record.Session.{Session}
-use Rattle.session.specs.declared.taken.Cell.{Cell}
-use Rattle.session.specs.declared.taken.Cell.the-variants as cell
+use Rattle.effect.specs.declared.cell.Cell.{Cell}
+use Rattle.effect.specs.declared.cell.Cell.the-variants as cell
 use Rattle.session.specs.Record.{place}
 use Rattle.table.specs.Storage.{storageLength, placeStart}
-use Rattle.table.proofs.Parts.{Outside, Agree}
 use Rattle.table.proofs.Places.{place-agrees, slot-outside, stored-length, stored-here, stored-outside, stored-else, stored-append}
-use Rattle.smp.specs.Take.{kept}
+use Rattle.take.specs.Take.{kept}
 use Rattle.lane.proofs.Half.{Bytes, St, Body}
 use Rattle.pair.specs.World.{sized}
 use Rattle.pair.proofs.Record.Stands.{Stands, Lies, unread-bound}

@@ -8,14 +8,14 @@ use mathlib.Core.Bool.{true, false}
 use mathlib.Core.List.{List, []}
 use lib.ListN.{length, getD, take, drop, getD-replicate}
 use lib.Dec.{T}
-use Rattle.first.proofs.Tests.{never}
+use Rattle.cases.proofs.Tests.{never}
 use Rattle.session.specs.declared.record.State.{State}
 use Rattle.session.specs.declared.record.State.the-variants.{Closed, Established, FinSent, FinReceived}
 use Rattle.session.specs.declared.record.Session.{Session}
 use Rattle.session.specs.Counter.{minus, plus}
 use Rattle.session.specs.Record.{window, inUse, finSent, freshOf, unread, unreadIn, place}
 use Rattle.session.specs.Well.{InOrder}
-use Rattle.session.specs.Calls.{withState}
+use Rattle.session.specs.Changes.{withState}
 use Rattle.session.proofs.Wrap.{minus-counts, plus-counts}
 use Rattle.table.specs.Storage.{placeStart}
 use Rattle.lane.proofs.Half.{Bytes, St, est, fs, fr, gone, Body, sOf, gOf, rOf, fresh}

@@ -12,9 +12,9 @@ use lib.ListN as list
 use lib.Seq.{paste, getD-set-same, getD-set-other, getD-append-seam, drop-at, take-length}
 use lib.Dec.{leb, eqb}
 use borrow.Author.Tests.{leb-true, le-leb, lt-leb, eqb-true, eqb-false, eq-eqb, not-true}
-use Rattle.first.specs.Cases.{if, first}
-use Rattle.first.proofs.Tests.{and-split, and-both, true-not, false-not}
-use Rattle.first.proofs.First.{skip, nothing, says}
+use Rattle.cases.specs.Cases.{if, first}
+use Rattle.cases.proofs.Tests.{and-split, and-both, true-not, false-not}
+use Rattle.cases.proofs.First.{skip, nothing, says}
 use Rattle.wire.specs.declared.header.Header.{Header}
 use Rattle.wire.specs.declared.kind.Kind.{Kind}
 use Rattle.wire.specs.declared.kind.Kind.the-variants.{Data}
@@ -25,12 +25,14 @@ use Rattle.session.specs.declared.record.State.the-variants.{Established, FinSe
 use Rattle.session.specs.declared.record.Session.{Session}
 use Rattle.session.specs.Counter.{minus, plus}
 use Rattle.session.specs.Record.{window, established, finReceived, place}
-use Rattle.session.specs.Taken.{windowInRange, seqnumInRange, isData, cellOf, storedOn, grantedOn, becomes}
+use Rattle.effect.specs.Taken.{windowInRange, seqnumInRange, isData, cellOf, becomes}
+use Rattle.session.specs.Changes.{storedOn, grantedOn}
 use Rattle.session.proofs.Wrap.{minus-counts, plus-counts, place-counts, same-counts}
 use Rattle.table.specs.Storage.{storageLength, placeStart}
-use Rattle.smp.specs.Take.{otherCases, takenOn, kept}
-use Rattle.lane.proofs.Half.{Bytes, St, est, fs, fr, gone, Packet, dat, ack, fin, Body, sOf, gOf, rOf, Out, winOk, nextOk, seqOk, checked, plain, stored, raised, take}
-use Rattle.lane.proofs.Half.{seqnumOf, wndwOf}
+use Rattle.judge.specs.Number.{otherCases}
+use Rattle.take.specs.Take.{takenOn, kept}
+use Rattle.lane.proofs.Half.{Bytes, St, est, fs, fr, gone, Packet, dat, ack, fin, Body, sOf, gOf, rOf, Out, winOk, nextOk, seqOk, checked, plain}
+use Rattle.lane.proofs.Half.{stored, raised, take, seqnumOf, wndwOf}
 use Rattle.lane.proofs.Inv.{Ranges}
 use Rattle.pair.specs.World.{sized}
 use Rattle.pair.proofs.Bytes.Encoded.{kindOf, payloadOf, headerFor, packetFor, packet-size}
@@ -103,7 +105,8 @@ module _ {size i : ℕ} {storage : List ℕ} {x : Session} {sid : ℕ} {B : Body
   data-passes a b q n =
       let next : q % 2 ^ 32 ≡ plus (x .r) 1 = rw (a .r, n .next, plus-counts (rOf B) 1) (ap (λ (m : ℕ). m % 2 ^ 32) (omega arith)) in
       let room : eqb (x .r) (x .g) ≡ false = rw (a .r, a .g) (same-counts (rOf B) (gOf B) (b .room) (omega arith) ∙ lt-leb (gOf B) (rOf B) (n .room)) in
-      ap (λ (t : State). if (established t) (eqb (q % 2 ^ 32) (plus (x .r) 1) && not (eqb (x .r) (x .g))) (leb (minus (q % 2 ^ 32) (x .r)) (minus (x .g) (x .r))))
+      ap (λ (t : State). if (established t) (eqb (q % 2 ^ 32) (plus (x .r) 1) && not (eqb (x .r) (x .g)))
+      (leb (minus (q % 2 ^ 32) (x .r)) (minus (x .g) (x .r))))
       (a .state)
       ∙ and-both (eqb (q % 2 ^ 32) (plus (x .r) 1)) (not (eqb (x .r) (x .g))) (eq-eqb (q % 2 ^ 32) (plus (x .r) 1) next) (false-not (eqb (x .r) (x .g)) room)
 

@@ -13,14 +13,14 @@ use mathlib.Core.Option.{none}
 use lib.ListN.{length, take, take-append-drop}
 use lib.Dec.{eqb}
 use borrow.Author.Tests.{lt-ltb}
-use Rattle.first.specs.Cases.{if, first, done}
-use Rattle.first.proofs.First.{skip, here, says, done-not}
+use Rattle.cases.specs.Cases.{if, first, done}
+use Rattle.cases.proofs.First.{skip, here, says, done-not}
 use Rattle.wire.specs.Packet.{headerLength}
 use Rattle.table.specs.declared.end.End.{End}
 use Rattle.table.specs.Slots.{holds, full}
-use Rattle.smp.specs.Calling.{shortStorage}
-use Rattle.smp.specs.Open.{isServer, openRefused, openOf, openPacket}
-use Rattle.smp.specs.Take.{takeNumber, missing}
+use Rattle.calling.specs.Calling.{shortStorage}
+use Rattle.open.specs.Open.{isServer, openRefused, openOf, openPacket}
+use Rattle.judge.specs.Number.{takeNumber, missing}
 use Rattle.lane.specs.Side.{Side, client, server}
 use Rattle.lane.proofs.World.{Item, syn, pkt, World}
 use Rattle.lane.proofs.Acts.{Act}
@@ -29,11 +29,11 @@ use Rattle.pair.specs.World.{Party, Sizes, sized}
 use Rattle.pair.specs.Step.{Call, Open, Send, Read, Close, Take, Step}
 use Rattle.pair.specs.Whose.{Marked, named, sender}
 use Rattle.pair.specs.History.{Scene}
-use Rattle.pair.proofs.Bytes.CallAt.{openOn, open-answer, open-packet, send-none-answer, send-none-packet, read-none-answer, read-none-payload, read-none-ack}
-use Rattle.pair.proofs.Bytes.CallAt.{close-none-answer, close-none-packet}
+use Rattle.pair.proofs.Bytes.CallAt.{openOn, open-answer, open-packet, send-none-answer, send-none-packet, read-none-answer, read-none-payload}
+use Rattle.pair.proofs.Bytes.CallAt.{read-none-ack, close-none-answer, close-none-packet}
 use Rattle.pair.proofs.Bytes.TakeFront.{waits-answer, waits-storage, nothing-number, packet-cut, packet-number, syn-cut, syn-number}
 use Rattle.pair.proofs.Mirror.Scene.{markOf, Mirror}
-use Rattle.pair.proofs.Mirror.Facts.{good-at, held-lane, room-full, short-is}
+use Rattle.pair.proofs.Mirror.Facts.{made-at, held-lane, room-full, short-is}
 use Rattle.pair.proofs.Mirror.Channels.{stream-empty, bytesOf, all-bytes, front-bytes, packet-low, packet-small}
 use Rattle.pair.proofs.Steps.Performs.{Given, Performs, opening, greeting, taking, sending, reading, closing, Rested, Acted}
 use Rattle.pair.proofs.Steps.Resting.{rests}
@@ -66,10 +66,10 @@ module _ {slots place : ℕ} {x : Scene} {W : World} (m : Mirror slots place x W
     open-rests n low top q = rests m (record { side = k; call = Open room }) n 0 low top (rw (answer, packet)) (rw answer (done-not n _ none (omega arith)))
       where
         answer : openOf (sized place) e room ≡ openRefused n e
-        answer = open-answer (sized place) e (good-at m k) (m .at k .up) room ∙ rw q (done-not n _ _ (omega arith))
+        answer = open-answer (sized place) e (made-at m k) (m .at k .up) room ∙ rw q (done-not n _ _ (omega arith))
 
         packet : openPacket (sized place) e room ≡ []
-        packet = open-packet (sized place) e (good-at m k) (m .at k .up) room ∙ rw q (done-not n _ _ (omega arith))
+        packet = open-packet (sized place) e (made-at m k) (m .at k .up) room ∙ rw q (done-not n _ _ (omega arith))
 
   opens : (k : Side) (room : ℕ) → Comes slots place x W k (Open room)
   opens server room = inl (open-rests server room 2 (omega arith) (omega arith) (says (here (ap isServer (m .at server .role)))))
@@ -97,25 +97,25 @@ module _ {slots place : ℕ} {x : Scene} {W : World} (m : Mirror slots place x W
     sends payload room true h = inr (_, sending (held-lane m k sid h))
     sends payload room false h = inl (rests m (record { side = k; call = Send sid payload room }) 4 0 (omega arith) (omega arith)
         (rw (
-          send-none-answer (sized place) (p .end) (good-at m k) (m .at k .up) sid h payload room,
-          send-none-packet (sized place) (p .end) (good-at m k) (m .at k .up) sid h payload room,
+          send-none-answer (sized place) (p .end) (made-at m k) (m .at k .up) sid h payload room,
+          send-none-packet (sized place) (p .end) (made-at m k) (m .at k .up) sid h payload room,
         )) (nobody h))
 
     reads : (room ack lent : ℕ) (b : Bool) → holds sid (p .end .slots) ≡ b → Comes slots place x W k (Read sid room ack lent)
     reads room ack lent true h = inr (_, reading (held-lane m k sid h))
     reads room ack lent false h = inl (rests m (record { side = k; call = Read sid room ack lent }) 4 0 (omega arith) (omega arith)
         (rw (
-          read-none-answer (sized place) (p .end) (good-at m k) (m .at k .up) sid h room ack (length (take lent (p .storage))),
-          read-none-payload (sized place) (p .end) (good-at m k) (m .at k .up) sid h room ack (take lent (p .storage)),
-          read-none-ack (sized place) (p .end) (good-at m k) (m .at k .up) sid h room ack (length (take lent (p .storage))),
+          read-none-answer (sized place) (p .end) (made-at m k) (m .at k .up) sid h room ack (length (take lent (p .storage))),
+          read-none-payload (sized place) (p .end) (made-at m k) (m .at k .up) sid h room ack (take lent (p .storage)),
+          read-none-ack (sized place) (p .end) (made-at m k) (m .at k .up) sid h room ack (length (take lent (p .storage))),
         )) (nobody h))
 
     closes : (room : ℕ) (b : Bool) → holds sid (p .end .slots) ≡ b → Comes slots place x W k (Close sid room)
     closes room true h = inr (_, closing (held-lane m k sid h))
     closes room false h = inl (rests m (record { side = k; call = Close sid room }) 4 0 (omega arith) (omega arith)
         (rw (
-          close-none-answer (sized place) (p .end) (good-at m k) (m .at k .up) sid h room,
-          close-none-packet (sized place) (p .end) (good-at m k) (m .at k .up) sid h room,
+          close-none-answer (sized place) (p .end) (made-at m k) (m .at k .up) sid h room,
+          close-none-packet (sized place) (p .end) (made-at m k) (m .at k .up) sid h room,
         )) (nobody h))
 
   -- ---- take
@@ -165,20 +165,21 @@ module _ {slots place : ℕ} {x : Scene} {W : World} (m : Mirror slots place x W
     takes k [] head =
         let nothing-there : x .world k .coming ≡ [] = all-bytes (m .at k) ∙ ap (bytesOf W) head ∙ stream-empty (λ (y : Marked). y .bytes) in
         inl (take-rests k given lent (short k given lent)
-        (ap (number k given lent) nothing-there ∙ nothing-number (sized place) (x .world k .end) (good-at m k) (m .at k .up) given (st k)))
+        (ap (number k given lent) nothing-there ∙ nothing-number (sized place) (x .world k .end) (made-at m k) (m .at k .up) given (st k)))
     takes client (syn n ∷ l) head = absurd (no-syn (m .inv) n l head)
     takes server (syn n ∷ l) head =
         let low : W .sid n < 2 ^ 16 = m .low n (syn-born (m .inv) n l head) in
         heads server given lent head
-        (λ c. syn-cut (sized place) (z .fits) (x .world server .end) (good-at m server) (m .at server .up) (W .sid n) low (bytesOf W l) given c (st server))
-        (λ c s. syn-number (sized place) (z .fits) (x .world server .end) (good-at m server) (m .at server .up) (W .sid n) low (bytesOf W l) given c (st server) ∙ rw s)
+        (λ c. syn-cut (sized place) (z .fits) (x .world server .end) (made-at m server) (m .at server .up) (W .sid n) low (bytesOf W l) given c (st server))
+        (λ c s. syn-number (sized place) (z .fits) (x .world server .end) (made-at m server) (m .at server .up) (W .sid n) low (bytesOf W l) given c (st server)
+        ∙ rw s)
         (λ g. inr (_, greeting head g))
     takes k (pkt n p ∷ l) head =
         let low = packet-low m head in
         let fits = packet-small m head in
         heads k given lent head
-        (λ c. packet-cut (sized place) (z .fits) (x .world k .end) (good-at m k) (m .at k .up) (W .sid n) low p fits (bytesOf W l) given c (st k))
-        (λ c s. packet-number (sized place) (z .fits) (x .world k .end) (good-at m k) (m .at k .up) (W .sid n) low p fits (bytesOf W l) given c (st k) ∙ rw s)
+        (λ c. packet-cut (sized place) (z .fits) (x .world k .end) (made-at m k) (m .at k .up) (W .sid n) low p fits (bytesOf W l) given c (st k))
+        (λ c s. packet-number (sized place) (z .fits) (x .world k .end) (made-at m k) (m .at k .up) (W .sid n) low p fits (bytesOf W l) given c (st k) ∙ rw s)
         (λ g. inr (_, taking head g))
 
 -- THEOREM: each step performs an act or rests

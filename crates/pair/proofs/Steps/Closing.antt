@@ -4,13 +4,13 @@ use native.Mathlib.Omega.{arith}
 use mathlib.Core.Path.{refl, sym, ap, ap₂, _∙_, subst}
 use mathlib.Core.List.{List}
 use lib.Dec.{T}
-use Rattle.first.proofs.First.{done-0, done-not}
+use Rattle.cases.proofs.First.{done-0, done-not}
 use Rattle.wire.specs.Packet.{headerBytes}
 use Rattle.wire.proofs.Headers.{header-length}
-use Rattle.session.specs.Calls.{closedOn}
+use Rattle.session.specs.Changes.{closedOn}
 use Rattle.table.specs.End.{putOf}
-use Rattle.smp.specs.declared.close.Closed.{Closed}
-use Rattle.smp.specs.Close.{finHeader}
+use Rattle.close.specs.declared.Closed.{Closed}
+use Rattle.close.specs.Close.{finHeader}
 use Rattle.lane.specs.Side.{Side}
 use Rattle.lane.proofs.Half.{St, Body, Out, Room, close}
 use Rattle.lane.proofs.Outcomes.{close-all}
@@ -25,7 +25,7 @@ use Rattle.pair.specs.History.{Scene}
 use Rattle.pair.proofs.Bytes.CallAt.{close-answer, close-packet}
 use Rattle.pair.proofs.Record.Calls.{close-does}
 use Rattle.pair.proofs.Mirror.Scene.{slot, SlotFor, Mirror}
-use Rattle.pair.proofs.Mirror.Facts.{lane-used, good-at, lane-at, lane-stands, named-is, Names}
+use Rattle.pair.proofs.Mirror.Facts.{lane-used, made-at, lane-at, lane-stands, named-is, Names}
 use Rattle.pair.proofs.Mirror.Channels.{FitsIn}
 use Rattle.pair.proofs.Steps.Performs.{closeRoom, Acted}
 use Rattle.pair.proofs.Steps.OwnCall.{Outcome, outcome, acted-call}
@@ -40,12 +40,13 @@ gives p r bytes = record { reply = emitting (r .number) 0 (r .length) bytes; end
 
 close-outcome : {slots place : ℕ} {x : Scene} {W : World} (m : Mirror slots place x W) {k : Side} {n : ℕ} (t : T (has n (W .table k)))
     (f : SlotFor slots (x .world k) (x .book .notes k) n) (room : ℕ)
-    → Outcome place (f .index) (x .world k) (W .sid n) (moved k (shut (closeRoom room)) (W .lanes n) .out) (did (sized place) (Close (W .sid n) room) (x .world k))
+    → Outcome place (f .index) (x .world k) (W .sid n) (moved k (shut (closeRoom room)) (W .lanes n) .out)
+    (did (sized place) (Close (W .sid n) room) (x .world k))
 close-outcome {place = place} {x} {W} m {k} {n} t f room =
     let p = x .world k in
     let s = slot p (f .index) in
-    let answer = close-answer (sized place) (p .end) (good-at m k) (m .at k .up) (W .sid n) (f .index) (lane-at m k n t f) room in
-    let packet = close-packet (sized place) (p .end) (good-at m k) (m .at k .up) (W .sid n) (f .index) (lane-at m k n t f) room in
+    let answer = close-answer (sized place) (p .end) (made-at m k) (m .at k .up) (W .sid n) (f .index) (lane-at m k n t f) room in
+    let packet = close-packet (sized place) (p .end) (made-at m k) (m .at k .up) (W .sid n) (f .index) (lane-at m k n t f) room in
     outcome (lane-stands m k n f) (lane-used m k n t) _ (close-does (stOf k (W .lanes n)) (lane-stands m k n f) (lane-used m k n t) (closeRoom room)) (λ d. d)
     (λ z d. ap₂ (gives p) (answer ∙ done-0 _ _ _ z) (packet ∙ done-0 _ _ _ z)
     ∙ ap (λ (l : ℕ). gives p (record { number = 0; length = l; end = putOf (f .index) (closedOn s) (p .end) }) (headerBytes (finHeader s)))

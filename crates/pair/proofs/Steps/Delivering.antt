@@ -9,15 +9,15 @@ use mathlib.Core.Option.{none}
 use lib.ListN.{length, take, drop, take-append-drop, length-take, length-append}
 use lib.Dec.{T}
 use borrow.Author.Tests.{ltb-false}
-use Rattle.first.specs.Cases.{first}
+use Rattle.cases.specs.Cases.{first}
 use Rattle.wire.specs.Packet.{headerLength}
 use Rattle.session.specs.declared.record.Session.{Session}
-use Rattle.session.specs.Taken.{cellOf}
+use Rattle.effect.specs.Taken.{cellOf}
 use Rattle.table.specs.declared.end.End.{End}
 use Rattle.table.specs.Storage.{storageLength}
 use Rattle.table.specs.End.{putOf}
-use Rattle.smp.specs.Calling.{shortStorage}
-use Rattle.smp.specs.Take.{takenOn, takeDone, takeOf, kept, takeStorage}
+use Rattle.calling.specs.Calling.{shortStorage}
+use Rattle.take.specs.Take.{takenOn, takeDone, takeOf, kept, takeStorage}
 use Rattle.lane.specs.Side.{Side}
 use Rattle.lane.proofs.Half.{Packet, Out}
 use Rattle.lane.proofs.Half as half'
@@ -38,7 +38,7 @@ use Rattle.pair.proofs.Record.Places.{Lent, kept-length, kept-others, k
 use Rattle.pair.proofs.Record.Does.{After}
 use Rattle.pair.proofs.Record.Taking.{take-number, take-after, packet-lent}
 use Rattle.pair.proofs.Mirror.Scene.{slot, SlotFor, Mirror}
-use Rattle.pair.proofs.Mirror.Facts.{good-at, lane-at, lane-stands, ranges-of, short-is}
+use Rattle.pair.proofs.Mirror.Facts.{made-at, lane-at, lane-stands, ranges-of, short-is}
 use Rattle.pair.proofs.Mirror.Channels.{bytesOf, front-sender, front-rest, front-bytes, front-leaves, packet-low, packet-small}
 use Rattle.pair.proofs.Mirror.OwnStep.{OwnStep}
 use Rattle.pair.proofs.Steps.Performs.{Given, Acted}
@@ -96,7 +96,7 @@ module _ {slots place : ℕ} (z : Sizes slots place) {x : Scene} {W : World} (m 
       (putOf (taking-slot .index) (takenOn (kindOf p) (headerFor (W .sid n) p) (slot (x .world k) (taking-slot .index))) (x .world k .end))
   taking-answer =
       ap (λ (b : List ℕ). takeOf (sized place) e (take given b) (length (take lent storage))) (front-bytes (m .at k) head)
-      ∙ taken-answer (sized place) (z .fits) e (good-at m k) (m .at k .up) sid (packet-low m head) p (packet-small m head) (bytesOf W l) given (g .whole) i
+      ∙ taken-answer (sized place) (z .fits) e (made-at m k) (m .at k .up) sid (packet-low m head) p (packet-small m head) (bytesOf W l) given (g .whole) i
       (lane-at m k n taking-listed taking-slot) clear (length (take lent storage)) short
 
   enough : storageLength place slots ≤ length (take lent storage)
@@ -119,7 +119,7 @@ module _ {slots place : ℕ} (z : Sizes slots place) {x : Scene} {W : World} (m 
       let c = cellOf (y .state) (kindOf p) in
       ap (λ (b : List ℕ). takeStorage (sized place) e (take given b) (take lent storage) ++ drop lent storage) (front-bytes (m .at k) head)
       ∙ ap (λ (s : List ℕ). s ++ drop lent storage)
-      (taken-storage (sized place) (z .fits) e (good-at m k) (m .at k .up) sid (packet-low m head) p (packet-small m head) (bytesOf W l) given (g .whole) i
+      (taken-storage (sized place) (z .fits) e (made-at m k) (m .at k .up) sid (packet-low m head) p (packet-small m head) (bytesOf W l) given (g .whole) i
       (lane-at m k n taking-listed taking-slot) clear (take lent storage) short)
       ∙ kept-lent c (take lent storage) (drop lent storage) (lent-in (take lent storage) enough)
       ∙ ap (kept (sized place) c i (headerFor sid p) (packetFor sid p)) (take-append-drop lent storage)
@@ -137,7 +137,8 @@ module _ {slots place : ℕ} (z : Sizes slots place) {x : Scene} {W : World} (m 
 
   own-step : OwnStep place x W k n deliver i (acted (did (sized place) (Take given lent) (x .world k)) (x .world k)) (record {
     coming = left (Take given lent) (did (sized place) (Take given lent) (x .world k) .reply) (x .book .notes k .coming);
-    owner = owners (Take given lent) (x .world k) (whoseIn (sized place) x step) (did (sized place) (Take given lent) (x .world k) .reply) (x .book .notes k .owner);
+    owner = owners (Take given lent) (x .world k) (whoseIn (sized place) x step) (did (sized place) (Take given lent) (x .world k) .reply)
+        (x .book .notes k .owner);
   }) (whoseIn (sized place) x step) []
   own-step = record {
     session = takenOn (kindOf p) (headerFor sid p) y;
@@ -156,4 +157,5 @@ module _ {slots place : ℕ} (z : Sizes slots place) {x : Scene} {W : World} (m 
   pub acted-taking : Acted slots place x W (record { side = k; call = Take given lent }) (turn k n deliver)
   acted-taking =
       acted-own m taking-listed (record { packet = p; tail = l; eq = head }) taking-slot (Take given lent) own-step refl
-      (rw (taking-answer, packet-toward (m .inv) k n p l head, packet-size sid p)) (ap length taking-storage ∙ kept-length (cellOf (y .state) (kindOf p)) taking-lent)
+      (rw (taking-answer, packet-toward (m .inv) k n p l head, packet-size sid p))
+      (ap length taking-storage ∙ kept-length (cellOf (y .state) (kindOf p)) taking-lent)

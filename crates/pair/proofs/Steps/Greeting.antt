@@ -11,9 +11,9 @@ use Rattle.session.specs.Record.{freshOf}
 use Rattle.table.specs.declared.end.End.{End}
 use Rattle.table.specs.Slots.{holds, lowestFree, full}
 use Rattle.table.specs.End.{putOf}
-use Rattle.smp.specs.Calling.{shortStorage}
-use Rattle.smp.specs.Open.{synHeader}
-use Rattle.smp.specs.Take.{takeDone, takeOf, takeStorage}
+use Rattle.calling.specs.Calling.{shortStorage}
+use Rattle.open.specs.Open.{synHeader}
+use Rattle.take.specs.Take.{takeDone, takeOf, takeStorage}
 use Rattle.lane.specs.Side.{Side, client, server}
 use Rattle.lane.proofs.Tables.{has, false-T}
 use Rattle.lane.proofs.World.{Item, syn, World, welcomed}
@@ -28,7 +28,7 @@ use Rattle.pair.specs.History.{Scene, entry}
 use Rattle.pair.proofs.Bytes.Encoded.{synFor, syn-size}
 use Rattle.pair.proofs.Bytes.TakeAt.{begun-answer, begun-storage}
 use Rattle.pair.proofs.Mirror.Scene.{MirrorAt, Mirror}
-use Rattle.pair.proofs.Mirror.Facts.{good-at, none-listed, full-room, short-is}
+use Rattle.pair.proofs.Mirror.Facts.{made-at, none-listed, full-room, short-is}
 use Rattle.pair.proofs.Mirror.Channels.{Channel, marksOf, bytesOf, front-sender, front-rest, front-bytes, front-leaves}
 use Rattle.pair.proofs.Mirror.NewLane.{stays-at, new-at}
 use Rattle.pair.proofs.Steps.Performs.{Given, Lengths, Acted}
@@ -60,7 +60,8 @@ module _ {slots place : ℕ} (z : Sizes slots place) {x : Scene} {W : World} (m 
       ≡ takeDone (synHeader (W .sid (W .known))) (putOf (lowestFree (x .world server .end .slots)) (freshOf (W .sid (W .known))) (x .world server .end))
   greeting-answer =
       ap (λ (b : List ℕ). takeOf (sized place) e (take given' b) (length (take lent storage))) (front-bytes (m .at server) head)
-      ∙ begun-answer (sized place) (z .fits) e (good-at m server) (m .at server .up) sid low (bytesOf W l) given' (g .whole) (m .at server .role) new greeting-room
+      ∙ begun-answer (sized place) (z .fits) e (made-at m server) (m .at server .up) sid low (bytesOf W l) given' (g .whole)
+      (m .at server .role) new greeting-room
       (length (take lent storage)) long
 
   pub greeting-storage : takeStorage (sized place) (x .world server .end) (take given' (x .world server .coming)) (take lent (x .world server .storage))
@@ -68,7 +69,8 @@ module _ {slots place : ℕ} (z : Sizes slots place) {x : Scene} {W : World} (m 
   greeting-storage =
       ap (λ (b : List ℕ). takeStorage (sized place) e (take given' b) (take lent storage) ++ drop lent storage) (front-bytes (m .at server) head)
       ∙ ap (λ (s : List ℕ). s ++ drop lent storage)
-      (begun-storage (sized place) (z .fits) e (good-at m server) (m .at server .up) sid low (bytesOf W l) given' (g .whole) (m .at server .role) new greeting-room
+      (begun-storage (sized place) (z .fits) e (made-at m server) (m .at server .up) sid low (bytesOf W l) given' (g .whole)
+      (m .at server .role) new greeting-room
       (take lent storage) long)
       ∙ take-append-drop lent storage
 

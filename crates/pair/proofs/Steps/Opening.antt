@@ -8,15 +8,15 @@ use mathlib.Core.Option.{some}
 use lib.ListN.{length}
 use lib.Dec.{eqb}
 use borrow.Author.Tests.{le-ltb}
-use Rattle.first.specs.Cases.{first}
-use Rattle.first.proofs.First.{skip, nothing, says, done-0}
+use Rattle.cases.specs.Cases.{first}
+use Rattle.cases.proofs.First.{skip, nothing, says, done-0}
 use Rattle.wire.specs.Packet.{headerLength}
 use Rattle.session.specs.Record.{freshOf}
 use Rattle.table.specs.declared.end.End.{End}
 use Rattle.table.specs.Slots.{lowestFree, full, smallestSid}
 use Rattle.table.specs.End.{putOf}
 use Rattle.table.proofs.Smallest.{smallest-new, smallest-low}
-use Rattle.smp.specs.Open.{isServer, openDone, openOf, openPacket}
+use Rattle.open.specs.Open.{isServer, openDone, openOf, openPacket}
 use Rattle.lane.specs.Side.{Side, client, server}
 use Rattle.lane.proofs.Lane.{begin, half, stOf}
 use Rattle.lane.proofs.Tables.{has, false-T, Eq?, same, differ, eq?}
@@ -33,7 +33,7 @@ use Rattle.pair.specs.History.{Scene, entry}
 use Rattle.pair.proofs.Bytes.Encoded.{synFor, syn-size}
 use Rattle.pair.proofs.Bytes.CallAt.{openOn, open-answer, open-packet}
 use Rattle.pair.proofs.Mirror.Scene.{markOf, MirrorAt, Mirror}
-use Rattle.pair.proofs.Mirror.Facts.{good-at, none-held, full-room}
+use Rattle.pair.proofs.Mirror.Facts.{made-at, none-held, full-room}
 use Rattle.pair.proofs.Mirror.Channels.{stream-tail, marked-one, marks-same, small-append, Channel}
 use Rattle.pair.proofs.Mirror.NewLane.{stays-at, new-at}
 use Rattle.pair.proofs.Steps.Performs.{Lengths, Acted}
@@ -57,10 +57,10 @@ module _ {slots place : ℕ} (z : Sizes slots place) {x : Scene} {W : World} (m 
   number = says (skip (ap isServer (m .at client .role)) (skip free' (skip (le-ltb room headerLength long) nothing)))
 
   answer : openOf (sized place) e room ≡ openDone sid (putOf (lowestFree (e .slots)) (freshOf sid) e)
-  answer = open-answer (sized place) e (good-at m client) (m .at client .up) room ∙ done-0 _ _ _ number
+  answer = open-answer (sized place) e (made-at m client) (m .at client .up) room ∙ done-0 _ _ _ number
 
   packet : openPacket (sized place) e room ≡ synFor sid
-  packet = open-packet (sized place) e (good-at m client) (m .at client .up) room ∙ done-0 _ _ _ number
+  packet = open-packet (sized place) e (made-at m client) (m .at client .up) room ∙ done-0 _ _ _ number
 
   -- ---- the lanes and the channels
 
@@ -82,7 +82,8 @@ module _ {slots place : ℕ} (z : Sizes slots place) {x : Scene} {W : World} (m 
 
   to-server : Channel place W' server (x .world server .coming ++ synFor sid) (x .book .notes server .coming ++ (sent ∷ []))
   to-server = record {
-    marks = ap₂ (λ (l : List Marked) (y : Marked). l ++ (y ∷ [])) (marks server) sent-is ∙ sym (map-append (markOf (W' .sid)) (W .chan server) (syn (W .born) ∷ []));
+    marks = ap₂ (λ (l : List Marked) (y : Marked). l ++ (y ∷ [])) (marks server) sent-is
+        ∙ sym (map-append (markOf (W' .sid)) (W .chan server) (syn (W .born) ∷ []));
     bytes = ap (λ (l : List ℕ). l ++ synFor sid) (m .at server .bytes) ∙ sym (stream-tail (λ (y : Marked). y .bytes) (x .book .notes server .coming) sent);
     small = small-append place (W .chan server) (syn (W .born) ∷ []) (m .at server .small) tt;
   }
@@ -100,7 +101,8 @@ module _ {slots place : ℕ} (z : Sizes slots place) {x : Scene} {W : World} (m 
       (record { coming = x .book .notes client .coming; owner = given (lowestFree (e .slots)) (some (W .born)) (x .book .notes client .owner) })
   at-client =
       new-at (m .at client) W' (λ j t. kept client j (listed-born (m .inv) client j t)) to-client (setNum-same (W .born) sid (W .sid)) free'
-      (false-T (has (W .born) (W .table client)) (λ t. omega (arith, listed-born (m .inv) client (W .born) t))) refl (ap (stOf client) fresh') (ap (half client) fresh')
+      (false-T (has (W .born) (W .table client)) (λ t. omega (arith, listed-born (m .inv) client (W .born) t))) refl (ap (stOf client) fresh')
+      (ap (half client) fresh')
 
   at-server : MirrorAt slots place W' server
       (record { end = x .world server .end; storage = x .world server .storage; coming = x .world server .coming ++ synFor sid })

@@ -8,9 +8,8 @@ use mathlib.Core.Bool.{true}
 use mathlib.Core.List.{List, map, flatMap}
 use mathlib.Core.Option.{some}
 use lib.ListN.{length, drop}
-use lib.Seq.{set-getD}
 use lib.Dec.{T}
-use Rattle.first.specs.Cases.{Case, first}
+use Rattle.cases.specs.Cases.{Case, first}
 use Rattle.session.specs.declared.record.Session.{Session}
 use Rattle.session.specs.Record.{inUse, free}
 use Rattle.table.specs.End.{putOf}
@@ -20,6 +19,7 @@ use Rattle.lane.proofs.Lane.{Call, moved, toward}
 use Rattle.lane.proofs.Tables.{has}
 use Rattle.lane.proofs.World.{World, after}
 use Rattle.lane.proofs.Acts.{Ready, turn}
+use Rattle.table.proofs.Slots.{put-same}
 use Rattle.pair.specs.World.{Party, sized}
 use Rattle.pair.specs.Step as step
 use Rattle.pair.specs.Step.{did, acted, Reply}
@@ -71,7 +71,7 @@ module _ {place i : ℕ} {p : Party} {sid : ℕ} {st : St} {B : Body} (a : Stand
   refused-outcome : (n : ℕ) → Outcome place i p sid (refuse n st B) (refused n 0 p)
   refused-outcome n = record {
     session = slot p i;
-    end = sym (ap (λ (l : List Session). record { role = p .end .role; up = p .end .up; slots = l }) (set-getD (p .end .slots) i free));
+    end = sym (put-same i (p .end));
     become = stands u a;
     reply = refl;
     storage = refl;
@@ -105,7 +105,8 @@ module _ {place i : ℕ} {p : Party} {sid : ℕ} {st : St} {B : Body} (a : Stand
 -- a call that leaves the book's count, its side's channel and its owners, as the lane's call does: each of these is refl
 pub acted-call : {slots place : ℕ} {x : Scene} {W : World} (m : Mirror slots place x W) {k : Side} {n : ℕ} (t : T (has n (W .table k)))
     (f : SlotFor slots (x .world k) (x .book .notes k) n) (call : step.Call) (c : Call)
-    → (let d = did (sized place) call (x .world k) in let who = whoseIn (sized place) x (record { side = k; call = call }) in let o = moved k c (W .lanes n) .out in
+    → (let d = did (sized place) call (x .world k) in let who = whoseIn (sized place) x (record { side = k; call = call }) in let o =
+    moved k c (W .lanes n) .out in
     Ready c n (W .chan k) → after c (W .chan k) ≡ W .chan k → turnReply (W .sid n) c o (toward k (W .lanes n)) ≡ outReply (W .sid n) o
     → left call (d .reply) (x .book .notes k .coming) ≡ x .book .notes k .coming
     → owners call (x .world k) who (d .reply) (x .book .notes k .owner) ≡ x .book .notes k .owner

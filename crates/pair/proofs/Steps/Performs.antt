@@ -48,7 +48,8 @@ pub data Performs (slots place : ℕ) (x : Scene) (W : World) : Step → Act →
       → Performs slots place x W (record { side = client; call = Open room }) (dial (smallestSid (x .world client .end .slots)))
   greeting : {given lent n : ℕ} {l : List Item} → W .chan server ≡ syn n ∷ l → Given slots place (x .world server) (synFor (W .sid n)) given lent
       → Performs slots place x W (record { side = server; call = Take given lent }) greet
-  taking : {k : Side} {given lent n : ℕ} {p : Packet} {l : List Item} → W .chan k ≡ pkt n p ∷ l → Given slots place (x .world k) (packetFor (W .sid n) p) given lent
+  taking : {k : Side} {given lent n : ℕ} {p : Packet} {l : List Item} → W .chan k ≡ pkt n p ∷ l
+      → Given slots place (x .world k) (packetFor (W .sid n) p) given lent
       → Performs slots place x W (record { side = k; call = Take given lent }) (turn k n deliver)
   sending : {k : Side} {n sid room : ℕ} {p : Bytes} → Names W k n sid
       → Performs slots place x W (record { side = k; call = Send sid p room }) (turn k n (put p (sendRoom place p room)))

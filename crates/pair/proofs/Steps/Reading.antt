@@ -8,20 +8,20 @@ use mathlib.Core.List.{List}
 use lib.ListN.{length, take, length-take}
 use lib.Dec.{T, ltb}
 use borrow.Author.Tests.{ltb-false}
-use Rattle.first.specs.Cases.{first}
-use Rattle.first.proofs.Tests.{or-split}
-use Rattle.first.proofs.First.{done-0, done-not, clear, test, numbered}
+use Rattle.buffer.proofs.Ranges.{part-front}
+use Rattle.cases.specs.Cases.{first}
+use Rattle.cases.proofs.Tests.{or-split}
+use Rattle.cases.proofs.First.{done-0, done-not, clear, test, numbered}
 use Rattle.wire.specs.Packet.{headerLength}
 use Rattle.session.specs.declared.record.Session.{Session}
 use Rattle.session.specs.Record as rec
 use Rattle.session.specs.Record.{established, oldest}
-use Rattle.session.specs.Calls.{readOn}
+use Rattle.session.specs.Changes.{readOn}
 use Rattle.table.specs.Storage.{placeStart, storageLength}
 use Rattle.table.specs.End.{putOf}
-use Rattle.table.proofs.Parts.{part-front}
 use Rattle.table.proofs.Places.{place-inside}
-use Rattle.smp.specs.declared.read.Got.{Got}
-use Rattle.smp.specs.Read.{oldestLength, readCases, ackOn, oldestIn, readDone}
+use Rattle.read.specs.declared.Got.{Got}
+use Rattle.read.specs.Read.{oldestLength, readCases, ackOn, oldestIn, readDone}
 use Rattle.lane.specs.Side.{Side}
 use Rattle.lane.proofs.Half.{St, Body, Out, Room, read}
 use Rattle.lane.proofs.Outcomes.{read-all}
@@ -36,7 +36,7 @@ use Rattle.pair.specs.History.{Scene}
 use Rattle.pair.proofs.Bytes.CallAt.{read-answer, read-payload, read-ack}
 use Rattle.pair.proofs.Record.Calls.{read-does}
 use Rattle.pair.proofs.Mirror.Scene.{slot, SlotFor, Mirror}
-use Rattle.pair.proofs.Mirror.Facts.{ranges-of, lane-used, good-at, lane-at, lane-stands, named-is, short-is, tooShort, Names}
+use Rattle.pair.proofs.Mirror.Facts.{ranges-of, lane-used, made-at, lane-at, lane-stands, named-is, short-is, tooShort, Names}
 use Rattle.pair.proofs.Mirror.Channels.{FitsIn}
 use Rattle.pair.proofs.Steps.Performs.{readRoom, Acted}
 use Rattle.pair.proofs.Steps.OwnCall.{Outcome, outcome, acted-call}
@@ -58,7 +58,18 @@ not-short s room ack short z =
 -- what the call gives at its side, by its answer, its payload and its ACK
 abbrev gives : Party → Got → List ℕ → List ℕ → step.Done
 gives p r payload bytes = record {
-  reply = record { number = r .number; sid = 0; used = 0; kind = 0; missing = 0; payloadLength = r .payload; payload = payload; packetLength = r .ack; packet = bytes };
+  reply = record {
+    number = r .number;
+    sid = 0;
+    used = 0;
+    kind = 0;
+    missing = 0;
+    payloadLength = r .«payload_length»;
+    payload = payload;
+    packetLength =
+        r .«ack_length»;
+    packet = bytes;
+  };
   end = r .end;
   storage = p .storage;
 }
@@ -78,7 +89,8 @@ module _ {slots place : ℕ} {x : Scene} {W : World} (m : Mirror slots place x W
       part-front (placeStart place (f .index) (oldest s)) (oldestLength s) lent (x .world k .storage)
       (omega (arith, length-take lent (x .world k .storage), place-inside place slots (f .index) (oldest s) (oldestLength s) small (f .within)))
 
-  read-outcome : Outcome place (f .index) (x .world k) (W .sid n) (moved k (get (readRoom slots place room ack lent (length (x .world k .storage)))) (W .lanes n) .out)
+  read-outcome : Outcome place (f .index) (x .world k) (W .sid n) (moved k (get (readRoom slots place room ack lent (length (x .world k .storage))))
+      (W .lanes n) .out)
       (did (sized place) (Read (W .sid n) room ack lent) (x .world k))
   read-outcome =
       let p = x .world k in
@@ -86,11 +98,11 @@ module _ {slots place : ℕ} {x : Scene} {W : World} (m : Mirror slots place x W
       let e1 = putOf (f .index) (readOn s) (p .end) in
       let a = lane-at m k n t f in
       let answer = rw (short-is m k lent) at
-      (read-answer (sized place) (p .end) (good-at m k) (m .at k .up) (W .sid n) (f .index) a room ack (length (take lent (p .storage)))) in
+      (read-answer (sized place) (p .end) (made-at m k) (m .at k .up) (W .sid n) (f .index) a room ack (length (take lent (p .storage)))) in
       let payload = rw (short-is m k lent) at
-      (read-payload (sized place) (p .end) (good-at m k) (m .at k .up) (W .sid n) (f .index) a room ack (take lent (p .storage))) in
+      (read-payload (sized place) (p .end) (made-at m k) (m .at k .up) (W .sid n) (f .index) a room ack (take lent (p .storage))) in
       let packet = rw (short-is m k lent) at
-      (read-ack (sized place) (p .end) (good-at m k) (m .at k .up) (W .sid n) (f .index) a room ack (length (take lent (p .storage)))) in
+      (read-ack (sized place) (p .end) (made-at m k) (m .at k .up) (W .sid n) (f .index) a room ack (length (take lent (p .storage)))) in
       outcome (lane-stands m k n f) (lane-used m k n t) _
       (read-does (stOf k (W .lanes n)) (lane-stands m k n f) (ranges-of m k n) (lane-used m k n t) (readRoom slots place room ack lent (length (p .storage))))
       (λ d. d .done)
@@ -99,7 +111,8 @@ module _ {slots place : ℕ} {x : Scene} {W : World} (m : Mirror slots place x W
       (λ h. gives-same p (answer ∙ done-not _ _ _ h) (payload ∙ done-not _ _ _ h) (packet ∙ done-not _ _ _ h))
 
 pub acted-reading : {slots place : ℕ} {x : Scene} {W : World} → Mirror slots place x W → {k : Side} {n sid : ℕ} → Names W k n sid → (room ack lent : ℕ)
-    → Acted slots place x W (record { side = k; call = Read sid room ack lent }) (turn k n (get (readRoom slots place room ack lent (length (x .world k .storage)))))
+    → Acted slots place x W (record { side = k; call = Read sid room ack lent })
+    (turn k n (get (readRoom slots place room ack lent (length (x .world k .storage)))))
 acted-reading {slots} {place} {x} {W} m {k} {n} a room ack lent =
     let f = m .at k .found n (a .listed) in
     let R = readRoom slots place room ack lent (length (x .world k .storage)) in

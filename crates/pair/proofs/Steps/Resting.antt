@@ -5,7 +5,7 @@ use mathlib.Core.Path.{_≡_, refl, ap, _∙_}
 use mathlib.Core.List.{List, append-nil}
 use mathlib.Core.Option.{Option, none}
 use lib.ListN.{length}
-use Rattle.first.proofs.First.{done-not}
+use Rattle.cases.proofs.First.{done-not}
 use Rattle.lane.specs.Side.{Side, other}
 use Rattle.lane.proofs.World.{World}
 use Rattle.pair.specs.World.{Party, with, sized}

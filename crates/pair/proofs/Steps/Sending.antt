@@ -4,13 +4,13 @@ use mathlib.Core.Path.{refl, sym, ap, ap₂, _∙_, subst}
 use mathlib.Core.List.{List}
 use lib.ListN.{length}
 use lib.Dec.{T, nltb→le}
-use Rattle.first.proofs.First.{done-0, done-not}
+use Rattle.cases.proofs.First.{done-0, done-not}
 use Rattle.wire.specs.Packet.{packetBytes}
 use Rattle.wire.proofs.Headers.{packet-length}
-use Rattle.session.specs.Calls.{sentOn}
+use Rattle.session.specs.Changes.{sentOn}
 use Rattle.table.specs.End.{putOf}
-use Rattle.smp.specs.declared.send.Sent.{Sent}
-use Rattle.smp.specs.Send.{dataHeader}
+use Rattle.send.specs.declared.Sent.{Sent}
+use Rattle.send.specs.Send.{dataHeader}
 use Rattle.lane.specs.Side.{Side}
 use Rattle.lane.proofs.Half.{Bytes, St, Body, Out, send}
 use Rattle.lane.proofs.Outcomes.{send-all}
@@ -25,14 +25,15 @@ use Rattle.pair.specs.History.{Scene}
 use Rattle.pair.proofs.Bytes.CallAt.{send-answer, send-packet}
 use Rattle.pair.proofs.Record.Calls.{send-does}
 use Rattle.pair.proofs.Mirror.Scene.{slot, SlotFor, Mirror}
-use Rattle.pair.proofs.Mirror.Facts.{ranges-of, lane-used, good-at, lane-at, lane-stands, named-is, Names}
+use Rattle.pair.proofs.Mirror.Facts.{ranges-of, lane-used, made-at, lane-at, lane-stands, named-is, Names}
 use Rattle.pair.proofs.Mirror.Channels.{FitsIn}
 use Rattle.pair.proofs.Steps.Performs.{sendRoom, Acted}
 use Rattle.pair.proofs.Steps.OwnCall.{Outcome, outcome, acted-call}
 
 -- a payload over the limit isn't sent
 send-fits : (place : ℕ) (p : Bytes) (room : ℕ) (s : St) (B : Body) → FitsIn place (send p (sendRoom place p room) s B .emit)
-send-fits place p room s B = send-all (λ (o : Out). FitsIn place (o .emit)) B p (sendRoom place p room) s (λ n a b. tt) (λ e small open'. nltb→le place (length p) small)
+send-fits place p room s B = send-all (λ (o : Out). FitsIn place (o .emit)) B p (sendRoom place p room) s (λ n a b. tt)
+    (λ e small open'. nltb→le place (length p) small)
 
 -- what the call gives at its side, by its answer and its packet
 abbrev gives : Party → Sent → List ℕ → step.Done
@@ -45,8 +46,8 @@ send-outcome : {slots place : ℕ} {x : Scene} {W : World} (m : Mirror slots pla
 send-outcome {place = place} {x} {W} m {k} {n} t f payload room =
     let p = x .world k in
     let s = slot p (f .index) in
-    let answer = send-answer (sized place) (p .end) (good-at m k) (m .at k .up) (W .sid n) (f .index) (lane-at m k n t f) payload room in
-    let packet = send-packet (sized place) (p .end) (good-at m k) (m .at k .up) (W .sid n) (f .index) (lane-at m k n t f) payload room in
+    let answer = send-answer (sized place) (p .end) (made-at m k) (m .at k .up) (W .sid n) (f .index) (lane-at m k n t f) payload room in
+    let packet = send-packet (sized place) (p .end) (made-at m k) (m .at k .up) (W .sid n) (f .index) (lane-at m k n t f) payload room in
     let bytes = packetBytes (dataHeader s (length payload)) payload in
     outcome (lane-stands m k n f) (lane-used m k n t) _
     (send-does (stOf k (W .lanes n)) (lane-stands m k n f) (ranges-of m k n) (lane-used m k n t) payload (sendRoom place payload room) refl) (λ d. d)
@@ -61,5 +62,6 @@ acted-sending {slots} {place} {x} {W} m {k} {n} a payload room =
     let f = m .at k .found n (a .listed) in
     let c = put payload (sendRoom place payload room) in
     subst (λ (sid : ℕ). Acted slots place x W (record { side = k; call = Send sid payload room }) (turn k n c)) (a .name)
-    (acted-call m (a .listed) f (Send (W .sid n) payload room) c tt refl refl refl refl refl (named-is m k n (a .listed)) (send-outcome m (a .listed) f payload room)
+    (acted-call m (a .listed) f (Send (W .sid n) payload room) c tt refl refl refl refl refl (named-is m k n (a .listed))
+    (send-outcome m (a .listed) f payload room)
     (send-fits place payload room (stOf k (W .lanes n)) (half k (W .lanes n))))

@@ -7,7 +7,8 @@ use Rattle.bench.proofs.steady.takes.Statement.{statement}
 use Rattle.bench.proofs.steady.takes.Tie as tie
 
 abbrev Inv-loop : tie.InvT-loop
-Inv-loop bytes storage₀ count e₀ number₀ values₀ at₀ sum₀ n₀ storage e number values at sum n = (n ≤ count) × (at ≤ length bytes) × (length storage ≡ length storage₀)
+Inv-loop bytes storage₀ count e₀ number₀ values₀ at₀ sum₀ n₀ storage e number values at sum n = (n ≤ count) × (at ≤ length bytes)
+    × (length storage ≡ length storage₀)
 
 abbrev μ-loop : tie.MeasureT-loop
 μ-loop bytes storage₀ count e₀ number₀ values₀ at₀ sum₀ n₀ storage e number values at sum n = count - n

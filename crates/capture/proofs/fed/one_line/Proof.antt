@@ -1,40 +1,78 @@
--- A line that is a frame, and one that isn't.
-use mathlib.Core.Path.{refl, sym, _∙_}
+-- A line that is a frame, and one that isn't. What was decoded stands at the front of the buffer, so the part that is fed is the frame.
+use native.Mathlib.Omega.{arith}
+use mathlib.Core.Path.{_≡_, sym, _∙_}
+use lib.ListN.{length}
+use lib.Seq.{length-take-le}
+use borrow.Author.Tests.{not-true, not-false}
 use borrow.Author.Needs.{needs}
-use Rattle.capture.specs.Feed.{badText}
-use Rattle.capture.proofs.Frames.{line-frame, line-bad, frame-length, fed-of}
+use Rattle.text.proofs.Bytes.{length-from}
+use Rattle.capture.proofs.Frames.{frame-length, fed-bad, fed-frame}
 use Rattle.capture.proofs.fed.one_line.Statement.{statement}
 use Rattle.capture.proofs.fed.one_line.Tie as tie
 
 is-frame-requires : tie.Need-is-frame-requires
 is-frame-requires c κs = search needs
 
-frame-line-requires : tie.Need-frame-line-requires
-frame-line-requires c κs = (c .before .before .before .before .before .before .pre .0, c .before .before .before .before .before .before .pre .1, frame-length (c .before .before .before .before .before .before .args .n) (c .before .before .before .before .before .before .args .e) (c .before .before .before .before .before .before .args .line .now) (sym (c .before .before .before .is-frame .ensures) ∙ c .before .before .if1 .taken))
-
-same-length : tie.Need-same-length
-same-length c = search needs
+bad-requires : tie.Need-bad-requires
+bad-requires c κs = search needs
 
 returns : tie.Need-returns
-returns c = let a = c .before .before .before .before .before .before .before .before .before .args in let q = line-frame (a .n) (a .e) (a .line .now) (sym (c .before .before .before .before .before .before .is-frame .ensures) ∙ c .before .before .before .before .before .if1 .taken) in rw (q .0, q .1) (c .before .before .frame-line .ensures)
+returns c = let is-frame = c .before .before .is-frame in
+    let args = c .before .before .before .before .args in
+    let p = sym (is-frame .ensures) ∙ not-true _ (c .before .if1 .taken) in
+    fed-bad (args .e) (args .line .now) p (c .bad .result) (c .bad .ensures)
 
-bad-row-requires : tie.Need-bad-row-requires
-bad-row-requires c κs = search needs
+slice-aggregate-decode : tie.Need-slice-aggregate-decode
+slice-aggregate-decode c = search needs
 
-same-length-2 : tie.Need-same-length-2
-same-length-2 c = search needs
+decode-requires : tie.Need-decode-requires
+decode-requires c κs = let args = c .before .before .before .before .args in
+    let is-frame = c .before .before .is-frame in
+    frame-length (args .e) (args .line .now) (sym (is-frame .ensures) ∙ not-false _ (c .before .if1 .left))
+
+array-share-prefix-frame : tie.Need-array-share-prefix-frame
+array-share-prefix-frame c = let is-frame = c .before .before .before .before .is-frame in
+    let if1 = c .before .before .before .if1 in
+    let args = c .before .before .before .before .before .before .args in
+    let p = sym (is-frame .ensures) ∙ not-false _ (if1 .left) in
+    let l : length (c .before .decode .last .1 .0) ≡ 528 = search needs in
+    let m = length-from (args .line .now) in
+    omega (arith, c .before .decode .ensures .1, frame-length (args .e) (args .line .now) p)
+
+slice-aggregate-frame-fed : tie.Need-slice-aggregate-frame-fed
+slice-aggregate-frame-fed c = let is-frame = c .before .before .before .before .before .is-frame in
+    let if1 = c .before .before .before .before .if1 in
+    let decode = c .before .before .decode in
+    let args = c .before .before .before .before .before .before .before .args in
+    let p = sym (is-frame .ensures) ∙ not-false _ (if1 .left) in
+    let l : length (decode .last .1 .0) ≡ 528 = search needs in
+    let m = length-from (args .line .now) in
+    let h = frame-length (args .e) (args .line .now) p in
+    sym (length-take-le (decode .result) (decode .last .1 .0) (omega (arith, decode .ensures .1)))
+
+frame-fed-requires : tie.Need-frame-fed-requires
+frame-fed-requires c κs = search needs
 
 returns-2 : tie.Need-returns-2
-returns-2 c = let a = c .before .before .before .before .before .before .before .before .args in let q = line-bad (a .n) (a .e) (a .line .now) (sym (c .before .before .before .before .before .is-frame .ensures) ∙ c .before .before .before .before .if1 .left) in rw (q .0, q .1) (c .before .before .bad-row .ensures .0, (fed-of (a .at) (c .before .before .bad-row .result) (badText (a .n)) _ (a .e) _ (c .before .before .bad-row .ensures .1 .0) refl refl, c .before .before .bad-row .ensures .1 .1))
+returns-2 c = let decode = c .before .before .before .before .decode in
+    let is-frame = c .before .before .before .before .before .before .before .is-frame in
+    let if1 = c .before .before .before .before .before .before .if1 in
+    let args = c .before .before .before .before .before .before .before .before .before .args in
+    let k = decode in
+    let p = sym (is-frame .ensures) ∙ not-false _ (if1 .left) in
+    let g = fed-frame (args .e) (args .line .now) p _ (k .last .1 .0) (k .result) (c .frame-fed .result) in
+    g (k .ensures .0) (k .ensures .1) (c .frame-fed .ensures)
 
 pub one-line-spec : {M : Type 1} → statement M
 one-line-spec =
     tie.close
     (tie.spec
     is-frame-requires
-    frame-line-requires
-    same-length
+    bad-requires
     returns
-    bad-row-requires
-    same-length-2
+    slice-aggregate-decode
+    decode-requires
+    array-share-prefix-frame
+    slice-aggregate-frame-fed
+    frame-fed-requires
     returns-2)

@@ -25,57 +25,70 @@ abbrev put-digits-below : ℕ → In 1 put-digits-kinds.ps
 put-digits-below t =
     and 1 put-digits-kinds.ps (falls 1 put-digits-kinds.ps _<_ μ-put-digits t) put-digits.Pre
 
-put-digits-cast-glyph : (t : ℕ) → put-digits-lts.Need-cast-glyph (glyph-reads.Asked, glyph-reads.Learnt, put-digits-below t, put-digits.Post) (put-digits-at t) put-digits.Post
+put-digits-cast-glyph : (t : ℕ) → put-digits-lts.Need-cast-glyph (glyph-reads.Asked, glyph-reads.Learnt, put-digits-below t, put-digits.Post)
+    (put-digits-at t) put-digits.Post
 put-digits-cast-glyph t c = search needs
 
-put-digits-glyph-requires : (t : ℕ) → put-digits-lts.Need-glyph-requires (glyph-reads.Asked, glyph-reads.Learnt, put-digits-below t, put-digits.Post) (put-digits-at t) put-digits.Post
+put-digits-glyph-requires : (t : ℕ) → put-digits-lts.Need-glyph-requires (glyph-reads.Asked, glyph-reads.Learnt, put-digits-below t, put-digits.Post)
+    (put-digits-at t) put-digits.Post
 put-digits-glyph-requires t c κs = search needs
 
-put-digits-slice-write-out : (t : ℕ) → put-digits-lts.Need-slice-write-out (glyph-reads.Asked, glyph-reads.Learnt, put-digits-below t, put-digits.Post) (put-digits-at t) put-digits.Post
+put-digits-slice-write-out : (t : ℕ) → put-digits-lts.Need-slice-write-out (glyph-reads.Asked, glyph-reads.Learnt, put-digits-below t, put-digits.Post)
+    (put-digits-at t) put-digits.Post
 put-digits-slice-write-out t c = omega (arith, length-low (c .before .before .before .args .n) (c .before .if1 .taken), c .before .before .before .pre .1)
 
-put-digits-add-result : (t : ℕ) → put-digits-lts.Need-add-result (glyph-reads.Asked, glyph-reads.Learnt, put-digits-below t, put-digits.Post) (put-digits-at t) put-digits.Post
+put-digits-add-result : (t : ℕ) → put-digits-lts.Need-add-result (glyph-reads.Asked, glyph-reads.Learnt, put-digits-below t, put-digits.Post)
+    (put-digits-at t) put-digits.Post
 put-digits-add-result t c = omega (arith, length-low (c .before .before .before .args .n) (c .before .if1 .taken), c .before .before .before .pre .1)
 
-put-digits-same-length : (t : ℕ) → put-digits-lts.Need-same-length (glyph-reads.Asked, glyph-reads.Learnt, put-digits-below t, put-digits.Post) (put-digits-at t) put-digits.Post
+put-digits-same-length : (t : ℕ) → put-digits-lts.Need-same-length (glyph-reads.Asked, glyph-reads.Learnt, put-digits-below t, put-digits.Post)
+    (put-digits-at t) put-digits.Post
 put-digits-same-length t c = simp length-set refl
 
-put-digits-returns : (t : ℕ) → put-digits-lts.Need-returns (glyph-reads.Asked, glyph-reads.Learnt, put-digits-below t, put-digits.Post) (put-digits-at t) put-digits.Post
+put-digits-returns : (t : ℕ) → put-digits-lts.Need-returns (glyph-reads.Asked, glyph-reads.Learnt, put-digits-below t, put-digits.Post)
+    (put-digits-at t) put-digits.Post
 put-digits-returns t c =
     let s = c .before .before .before in
     let l = length-low (s .args .n) (c .before .if1 .taken) in
     (rw (c .glyph .ensures) (put-low (s .args .out .now) (s .args .at) (s .args .n) (c .before .if1 .taken) (omega (arith, l, s .pre .1))), omega (arith, l))
 
-put-digits-put-digits-requires : (t : ℕ) → put-digits-lts.Need-put-digits-requires (glyph-reads.Asked, glyph-reads.Learnt, put-digits-below t, put-digits.Post) (put-digits-at t) put-digits.Post
+put-digits-put-digits-requires : (t : ℕ) → put-digits-lts.Need-put-digits-requires (glyph-reads.Asked, glyph-reads.Learnt, put-digits-below t, put-digits.Post)
+    (put-digits-at t) put-digits.Post
 put-digits-put-digits-requires t c κs =
     let s = c .before .before .before in
     let l = length-high (s .args .n) (c .before .if1 .left) in
     (omega (arith, s .pre .0), omega (arith, l, s .pre .1))
 
-put-digits-cast-glyph-2 : (t : ℕ) → put-digits-lts.Need-cast-glyph-2 (glyph-reads.Asked, glyph-reads.Learnt, put-digits-below t, put-digits.Post) (put-digits-at t) put-digits.Post
+put-digits-cast-glyph-2 : (t : ℕ) → put-digits-lts.Need-cast-glyph-2 (glyph-reads.Asked, glyph-reads.Learnt, put-digits-below t, put-digits.Post)
+    (put-digits-at t) put-digits.Post
 put-digits-cast-glyph-2 t c = search needs
 
-put-digits-glyph-requires-2 : (t : ℕ) → put-digits-lts.Need-glyph-requires-2 (glyph-reads.Asked, glyph-reads.Learnt, put-digits-below t, put-digits.Post) (put-digits-at t) put-digits.Post
+put-digits-glyph-requires-2 : (t : ℕ) → put-digits-lts.Need-glyph-requires-2 (glyph-reads.Asked, glyph-reads.Learnt, put-digits-below t, put-digits.Post)
+    (put-digits-at t) put-digits.Post
 put-digits-glyph-requires-2 t c κs = search needs
 
-put-digits-slice-write-out-2 : (t : ℕ) → put-digits-lts.Need-slice-write-out-2 (glyph-reads.Asked, glyph-reads.Learnt, put-digits-below t, put-digits.Post) (put-digits-at t) put-digits.Post
+put-digits-slice-write-out-2 : (t : ℕ) → put-digits-lts.Need-slice-write-out-2 (glyph-reads.Asked, glyph-reads.Learnt, put-digits-below t, put-digits.Post)
+    (put-digits-at t) put-digits.Post
 put-digits-slice-write-out-2 t c =
     let s = c .before .before .before .before .before .before .before in
     let k = c .before .before .before .put-digits in
     let l = length-high (s .args .n) (c .before .before .before .before .before .if1 .left) in
     omega (arith, l, s .pre .1, k .ensures .1, k .kept .0)
 
-put-digits-add-result-2 : (t : ℕ) → put-digits-lts.Need-add-result-2 (glyph-reads.Asked, glyph-reads.Learnt, put-digits-below t, put-digits.Post) (put-digits-at t) put-digits.Post
+put-digits-add-result-2 : (t : ℕ) → put-digits-lts.Need-add-result-2 (glyph-reads.Asked, glyph-reads.Learnt, put-digits-below t, put-digits.Post)
+    (put-digits-at t) put-digits.Post
 put-digits-add-result-2 t c =
     let s = c .before .before .before .before .before .before .before in
     let k = c .before .before .before .put-digits in
     let l = length-high (s .args .n) (c .before .before .before .before .before .if1 .left) in
     omega (arith, l, s .pre .1, k .ensures .1, s .good .0 .0)
 
-put-digits-same-length-2 : (t : ℕ) → put-digits-lts.Need-same-length-2 (glyph-reads.Asked, glyph-reads.Learnt, put-digits-below t, put-digits.Post) (put-digits-at t) put-digits.Post
+put-digits-same-length-2 : (t : ℕ) → put-digits-lts.Need-same-length-2 (glyph-reads.Asked, glyph-reads.Learnt, put-digits-below t, put-digits.Post)
+    (put-digits-at t) put-digits.Post
 put-digits-same-length-2 t c = simp length-set (c .before .before .before .put-digits .kept .0)
 
-put-digits-returns-2 : (t : ℕ) → put-digits-lts.Need-returns-2 (glyph-reads.Asked, glyph-reads.Learnt, put-digits-below t, put-digits.Post) (put-digits-at t) put-digits.Post
+put-digits-returns-2 : (t : ℕ) → put-digits-lts.Need-returns-2 (glyph-reads.Asked, glyph-reads.Learnt, put-digits-below t, put-digits.Post)
+    (put-digits-at t) put-digits.Post
 put-digits-returns-2 t c =
     let s = c .before .before .before .before .before .before .before in
     let k = c .before .before .before .put-digits in

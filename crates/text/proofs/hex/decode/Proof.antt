@@ -5,7 +5,7 @@ use mathlib.Core.Path.{_≡_, refl, ap, _∙_}
 use lib.ListN.{length, length-set}
 use lib.Seq.{paste, paste-zero}
 use borrow.Author.Needs.{needs}
-use Rattle.wire.proofs.Onto.{paste-first}
+use Rattle.buffer.proofs.Onto.{paste-first}
 use Rattle.text.specs.Hex.{fromHex}
 use Rattle.text.proofs.Bytes.{length-from, decode-step}
 use Rattle.text.proofs.hex.decode.Statement.{statement}
@@ -62,8 +62,11 @@ same-length c = c .before .loop .inv .2
 returns : tie.Need-returns Inv-loop μ-loop
 returns c = let a = c .before .before .before .before .args in
     let l = c .before .loop in
-    let e : l .i ≡ length (fromHex (a .text .now)) = omega (arith, length-from (a .text .now)) in
-    (l .inv .3 ∙ ap (paste (a .out .now) 0 (fromHex (a .text .now))) e ∙ paste-first (fromHex (a .text .now)) (a .out .now), omega (arith, length-from (a .text .now)))
+    let e : l .i ≡ length (fromHex (a .text .now)) = omega (arith, length-from (a .text .now)) in (
+      l .inv .3 ∙ ap (paste (a .out .now) 0 (fromHex (a .text .now))) e ∙ paste-first (fromHex (a .text .now)) (a .out .now),
+      omega
+          (arith, length-from (a .text .now)),
+    )
 
 pub decode-spec : {M : Type 1} → statement M
 decode-spec =

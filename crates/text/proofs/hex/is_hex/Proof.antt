@@ -28,7 +28,10 @@ value-requires : tie.Need-value-requires Inv-loop μ-loop
 value-requires c κs = search needs
 
 returns-2 : tie.Need-returns-2 Inv-loop μ-loop
-returns-2 c = sym (rw (eq-eqb (length (c .before .before .before .before .before .before .before .args .text .now) % 2) 0 (c .before .before .before .before .loop .inv .0)) (c .before .before .before .before .loop .inv .1 ∙ digits-stop (c .before .before .before .before .before .before .before .args .text .now) (c .before .before .before .before .loop .i) (c .before .before .before .loop-test .taken) (sym (c .before .value .ensures) ∙ c .if2 .taken)))
+returns-2 c = sym (rw (eq-eqb (length (c .before .before .before .before .before .before .before .args .text .now) % 2) 0
+    (c .before .before .before .before .loop .inv .0)) (c .before .before .before .before .loop .inv .1
+    ∙ digits-stop (c .before .before .before .before .before .before .before .args .text .now) (c .before .before .before .before .loop .i)
+    (c .before .before .before .loop-test .taken) (sym (c .before .value .ensures) ∙ c .if2 .taken)))
 
 add-i : tie.Need-add-i Inv-loop μ-loop
 add-i c = search needs
@@ -37,10 +40,16 @@ loop-less : tie.Need-loop-less Inv-loop μ-loop
 loop-less c = search needs
 
 loop-again : tie.Need-loop-again Inv-loop μ-loop
-loop-again c = (c .before .before .before .before .loop .inv .0, c .before .before .before .before .loop .inv .1 ∙ digits-on (c .before .before .before .before .before .before .before .args .text .now) (c .before .before .before .before .loop .i) (c .before .before .before .loop-test .taken) (λ e. c .if2 .left (c .before .value .ensures ∙ e)))
+loop-again c = (
+  c .before .before .before .before .loop .inv .0,
+  c .before .before .before .before .loop .inv .1
+      ∙ digits-on (c .before .before .before .before .before .before .before .args .text .now) (c .before .before .before .before .loop .i)
+      (c .before .before .before .loop-test .taken) (λ e. c .if2 .left (c .before .value .ensures ∙ e)),
+)
 
 returns-3 : tie.Need-returns-3 Inv-loop μ-loop
-returns-3 c = sym (rw (eq-eqb (length (c .before .before .before .before .args .text .now) % 2) 0 (c .before .loop .inv .0)) (c .before .loop .inv .1 ∙ digits-end (c .before .before .before .before .args .text .now) (c .before .loop .i) (c .loop-test .left)))
+returns-3 c = sym (rw (eq-eqb (length (c .before .before .before .before .args .text .now) % 2) 0 (c .before .loop .inv .0))
+    (c .before .loop .inv .1 ∙ digits-end (c .before .before .before .before .args .text .now) (c .before .loop .i) (c .loop-test .left)))
 
 pub is-hex-spec : {M : Type 1} → statement M
 is-hex-spec =

@@ -1,0 +1,62 @@
+-- Safe: the slot is below sixteen. The measure is how many slots are left.
+use Prim.Native.Nat.{_-_, _≤_}
+use borrow.Author.Needs.{needs}
+use Rattle.bench.proofs.crossing.end_of.Statement.{statement}
+use Rattle.bench.proofs.crossing.end_of.Tie as tie
+
+abbrev Inv-loop : tie.InvT-loop
+Inv-loop w e₀ i₀ e i = i ≤ 16
+
+abbrev μ-loop : tie.MeasureT-loop
+μ-loop w e₀ i₀ e i = 16 - i
+
+word-requires : tie.Need-word-requires Inv-loop μ-loop
+word-requires c κs = search needs
+
+role-of-requires : tie.Need-role-of-requires Inv-loop μ-loop
+role-of-requires c κs = search needs
+
+start-requires : tie.Need-start-requires Inv-loop μ-loop
+start-requires c κs = search needs
+
+word-requires-2 : tie.Need-word-requires-2 Inv-loop μ-loop
+word-requires-2 c κs = search needs
+
+loop-holds : tie.Need-loop-holds Inv-loop μ-loop
+loop-holds c = search needs
+
+session-of-requires : tie.Need-session-of-requires Inv-loop μ-loop
+session-of-requires c κs = search needs
+
+put-requires : tie.Need-put-requires Inv-loop μ-loop
+put-requires c κs = search needs
+
+add-i : tie.Need-add-i Inv-loop μ-loop
+add-i c = search needs
+
+loop-less : tie.Need-loop-less Inv-loop μ-loop
+loop-less c = search needs
+
+loop-again : tie.Need-loop-again Inv-loop μ-loop
+loop-again c = search needs
+
+returns : tie.Need-returns Inv-loop μ-loop
+returns c = search needs
+
+pub end-of-spec : {M : Type 1} → statement M
+end-of-spec =
+    tie.close
+    (tie.spec
+    Inv-loop
+    μ-loop
+    word-requires
+    role-of-requires
+    start-requires
+    word-requires-2
+    loop-holds
+    session-of-requires
+    put-requires
+    add-i
+    loop-less
+    loop-again
+    returns)

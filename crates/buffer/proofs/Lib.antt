@@ -1,0 +1,4 @@
+pub mod Onto
+pub mod Parts
+pub mod Wrote
+pub mod Ranges

@@ -1,0 +1,57 @@
+// Open: a client's new session, and its SYN.
+ghost use mathlib.Core.Path.{_≡_};
+ghost use Rattle.open.specs.Open.{openDone, openRefused, OpenPromise};
+use cases::number;
+use decide::open_number;
+use decide::syn_header;
+use scan::scan;
+use session::record::Session;
+use table::end::End;
+use wire::header::Header;
+
+pub mod decide;
+
+pub struct Opened {
+    pub number: u8,
+    pub sid: u16,
+    pub length: usize,
+    pub end: End,
+}
+
+impl Opened {
+    fn done(sid: u16, e: End) -> Opened
+        ensures { λ r. ⌜ r ≡ openDone sid e ⌝ }
+    {
+        Opened {
+            number: number::DONE,
+            sid: sid,
+            length: Header::LEN,
+            end: e,
+        }
+    }
+
+    fn refused(n: u8, e: End) -> Opened
+        ensures { λ r. ⌜ r ≡ openRefused n e ⌝ }
+    {
+        Opened {
+            number: n,
+            sid: 0,
+            length: 0,
+            end: e,
+        }
+    }
+}
+
+pub fn open(e: End, packet: &mut [u8]) -> Opened
+    ensures { λ r. ⌜ OpenPromise e (now (packet .entry)) r (now (packet .exit)) ⌝ }
+{
+    let l = scan(e, 0);
+    let role = e.role;
+    let n = open_number(l.made, e.up, role, l.free == End::SLOTS, packet.len());
+    if n != number::DONE {
+        return Opened::refused(n, e);
+    }
+    let sid = e.smallest_sid();
+    wire::write::header(packet, syn_header(sid));
+    Opened::done(sid, e.put(l.free, Session::fresh(sid)))
+}

@@ -1,0 +1,2 @@
+pub mod ReadZero
+pub mod Reading

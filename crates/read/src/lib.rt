@@ -1,0 +1,100 @@
+// Read: the oldest unread payload is handed over, and in ESTABLISHED an ACK goes out.
+ghost use mathlib.Core.Path.{_≡_};
+ghost use mathlib.Core.Bool.{false, _&&_};
+ghost use Prim.Native.Nat.{_≤_, _<_};
+ghost use lib.ListN.{length, take, drop};
+ghost use lib.Dec.{ltb};
+ghost use Rattle.buffer.specs.Onto.{onto};
+ghost use Rattle.wire.specs.Packet.{headerLength};
+ghost use Rattle.session.specs.Record.{payloadLimit, established};
+ghost use Rattle.table.specs.End.{slotCount};
+ghost use Rattle.table.specs.Storage.{storageLength, placeStart};
+ghost use Rattle.read.specs.Read.{ackOn, readDone, readRefused, ReadPromise};
+use buffer::copy_in;
+use cases::number;
+use decide::ack_header;
+use decide::oldest_length;
+use decide::read_number;
+use scan::scan;
+use session::record::Session;
+use table::end::End;
+use table::storage;
+use wire::header::Header;
+
+pub mod decide;
+
+pub struct Got {
+    pub number: u8,
+    pub payload_length: usize,
+    pub ack_length: usize,
+    pub end: End,
+}
+
+impl Got {
+    fn done(payload: usize, ack: usize, e: End) -> Got
+        ensures { λ r. ⌜ r ≡ readDone payload ack e ⌝ }
+    {
+        Got {
+            number: number::DONE,
+            payload_length: payload,
+            ack_length: ack,
+            end: e,
+        }
+    }
+
+    fn refused(n: u8, e: End) -> Got
+        ensures { λ r. ⌜ r ≡ readRefused n e ⌝ }
+    {
+        Got {
+            number: n,
+            payload_length: 0,
+            ack_length: 0,
+            end: e,
+        }
+    }
+}
+
+// The ACK, in ESTABLISHED, and its length.
+fn write_ack(ack: &mut [u8], x: Session) -> usize
+    requires { ⌜ established (x .state) && ltb (length (now ack)) headerLength ≡ false ⌝ }
+    ensures { λ r. ⌜ r ≡ length (ackOn x) ⌝ }
+    ensures { λ _. ⌜ now (ack .exit) ≡ onto (ackOn x) (now (ack .entry)) ⌝ }
+{
+    let st = x.state;
+    if !st.established() {
+        return 0;
+    }
+    wire::write::header(ack, ack_header(x));
+    Header::LEN
+}
+
+// So many bytes of the storage, from the place of a SEQNUM in a slot, to the front of a buffer.
+fn hand_over(payload: &mut [u8], storage: &[u8], slot: usize, seqnum: u32, n: usize)
+    requires { ⌜ (slot < slotCount) × (n ≤ payloadLimit) × (n ≤ length (now payload)) × (storageLength payloadLimit slotCount ≤ length (now storage)) ⌝ }
+    ensures { λ _. ⌜ now (payload .exit) ≡ onto (take n (drop (placeStart payloadLimit slot seqnum) (now (storage .entry)))) (now (payload .entry)) ⌝ }
+{
+    let at = storage::place_start(slot, seqnum);
+    copy_in(payload, 0, &storage[at..at + n]);
+}
+
+pub fn read(e: End, sid: u16, storage: &[u8], payload: &mut [u8], ack: &mut [u8]) -> Got
+    ensures { λ r. ⌜ ReadPromise e sid (now (storage .entry)) (now (payload .entry)) (now (ack .entry)) r (now (payload .exit)) (now (ack .exit)) ⌝ }
+{
+    let l = scan(e, sid);
+    let n = read_number(
+        l,
+        e.up,
+        payload.len(),
+        ack.len(),
+        storage.len() < storage::LENGTH,
+    );
+    if n != number::DONE {
+        return Got::refused(n, e);
+    }
+    let x = l.session;
+    let y = x.read();
+    let len = oldest_length(x);
+    hand_over(payload, storage, l.slot, x.oldest(), len);
+    let a = write_ack(ack, x);
+    Got::done(len, a, e.put(l.slot, y))
+}

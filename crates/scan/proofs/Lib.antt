@@ -1,0 +1,3 @@
+pub mod Differ
+pub mod Marks
+pub mod Seen

@@ -1,0 +1,103 @@
+// One look through the slots, which gives a call all that it asks of the table. It goes from the last slot to the first, so that the lowest
+// free slot is the last one seen.
+ghost use mathlib.Core.Path.{_≡_};
+ghost use Rattle.table.specs.Limits.{base};
+ghost use Rattle.table.specs.Well.{sidsDiffer};
+ghost use Rattle.scan.specs.Look.{seenNothing, lookOf};
+use cases::either;
+use session::record::Session;
+use table::end::End;
+use table::end::is_of;
+
+// Whether the end is well made, the slot and the record of a SID, and the lowest free slot.
+pub struct Look {
+    pub made: bool,
+    pub slot: usize,
+    pub session: Session,
+    pub free: usize,
+}
+
+// What is seen of an end that isn't well made.
+fn nothing() -> Look
+    ensures { λ r. ⌜ r ≡ seenNothing ⌝ }
+{
+    Look {
+        made: false,
+        slot: 0,
+        session: Session::free(),
+        free: 0,
+    }
+}
+
+// SIDs in use differ: each slot is held against the later ones.
+fn sids_differ(e: End) -> bool
+    ensures { λ r. ⌜ r ≡ sidsDiffer (e .slots) ⌝ }
+{
+    let mut i = End::SLOTS;
+    while 0 < i {
+        i -= 1;
+        let x = e.slots[i];
+        let st = x.state;
+        if st.in_use() {
+            let id = x.sid;
+            let mut j = i + 1;
+            while j < End::SLOTS {
+                let y = e.slots[j];
+                if is_of(y, id) {
+                    return false;
+                }
+                j += 1;
+            }
+        }
+    }
+    true
+}
+
+// SIDs are marked by their rest modulo 64. Where no mark is met twice they differ, and no slot is held against another.
+pub fn scan(e: End, sid: u16) -> Look
+    ensures { λ r. ⌜ r ≡ lookOf base e sid ⌝ }
+{
+    let up = e.up;
+    let mut slot = End::SLOTS;
+    let mut free = End::SLOTS;
+    let mut marks = [false; 64];
+    let mut twice = false;
+    let mut i = End::SLOTS;
+    while 0 < i {
+        i -= 1;
+        let x = e.slots[i];
+        if !x.in_order(Session::WINDOW, Session::PAYLOAD) {
+            return nothing();
+        }
+        let st = x.state;
+        if st.in_use() {
+            if !up {
+                return nothing();
+            }
+            let id = x.sid;
+            let k = (id % 64) as usize;
+            twice = either(marks[k], twice);
+            marks[k] = true;
+            if id == sid {
+                slot = i;
+            }
+        } else {
+            free = i;
+        }
+    }
+    if twice {
+        if !sids_differ(e) {
+            return nothing();
+        }
+    }
+    let mut found = Session::free();
+    if slot < End::SLOTS {
+        found = e.slots[slot];
+    }
+    Look {
+        made: true,
+        slot: slot,
+        session: found,
+        free: free,
+    }
+}

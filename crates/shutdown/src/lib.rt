@@ -1,0 +1,44 @@
+// Shutdown: the end is down.
+ghost use mathlib.Core.Path.{_≡_};
+ghost use Rattle.cases.specs.Cases.{first};
+ghost use Rattle.shutdown.specs.Shutdown.{shutdownCases, shutdownAnswer, ShutdownPromise};
+use cases::number;
+use scan::scan;
+use table::end::End;
+
+pub struct Stopped {
+    pub number: u8,
+    pub end: End,
+}
+
+impl Stopped {
+    fn answer(n: u8, e: End) -> Stopped
+        ensures { λ r. ⌜ r ≡ shutdownAnswer n e ⌝ }
+    {
+        Stopped { number: n, end: e }
+    }
+}
+
+// 12, 1.
+pub fn shutdown_number(made: bool, up: bool) -> u8
+    ensures { λ r. ⌜ r ≡ first (shutdownCases made up) ⌝ }
+{
+    if !made {
+        return number::ILL_MADE;
+    }
+    if !up {
+        return number::DOWN;
+    }
+    number::DONE
+}
+
+pub fn shutdown(e: End) -> Stopped
+    ensures { λ r. ⌜ ShutdownPromise e r ⌝ }
+{
+    let l = scan(e, 0);
+    let n = shutdown_number(l.made, e.up);
+    if n != number::DONE {
+        return Stopped::answer(n, e);
+    }
+    Stopped::answer(number::DONE, e.down())
+}

@@ -1,9 +1,0 @@
-pub mod Calling
-pub mod Start
-pub mod Open
-pub mod Send
-pub mod Read
-pub mod Close
-pub mod Shutdown
-pub mod Take
-pub mod TakeParts

@@ -1,0 +1,2 @@
+pub mod SynKeeps
+pub mod Taking

@@ -1,0 +1,30 @@
+-- The characters of a line that came so far, in an array of the longest line.
+use Prim.Native.Nat.{ℕ, _≤_, _+_}
+use mathlib.Core.Path.{_≡_}
+use mathlib.Core.List.{List}
+use lib.ListN.{length, take}
+use lib.Seq.{paste}
+use lib.Dec.{leb, ltb}
+use Rattle.cases.specs.Cases.{if}
+
+-- n counts bytes at the front of a list. The second part follows from the first; the proof that Rattle makes of `&s[..n]` asks for both
+abbrev pub Front : ℕ → List ℕ → Type 0
+Front n xs = (n ≤ length xs) × (n ≡ length (take n xs))
+
+abbrev pub longestLine : ℕ
+longestLine = 16384
+
+-- what the length of a line counts as that is longer
+abbrev pub tooLong : ℕ
+tooLong = 18446744073709551615
+
+-- a line that is held, and some characters more
+abbrev pub heldWith : ℕ → ℕ → ℕ
+heldWith held more = if (leb (held + more) longestLine) (held + more) tooLong
+
+abbrev pub lineWith : List ℕ → ℕ → List ℕ → List ℕ
+lineWith line held part = if (leb (held + length part) longestLine) (paste line held part (length part)) line
+
+-- how many characters of a line of n count, where there is room for so many
+abbrev pub countOf : ℕ → ℕ → ℕ
+countOf n room = if (ltb room n) 0 n

@@ -1,0 +1,4 @@
+pub mod Words
+pub mod Forms
+pub mod Stated
+pub mod Held

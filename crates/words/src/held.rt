@@ -1,0 +1,37 @@
+// The line that isn't ended yet: the characters of it that came so far.
+ghost use mathlib.Core.Path.{_≡_};
+ghost use lib.ListN.{length};
+ghost use Rattle.words.specs.Held.{Front, heldWith, lineWith, countOf};
+
+pub const LONGEST: usize = 16384;
+
+pub type Line = [u8; LONGEST];
+
+// What the length of a line counts as that is longer.
+const TOO_LONG: usize = 18446744073709551615;
+
+// Some characters join the line. The answer is its length.
+pub fn join(line: &mut Line, held: usize, part: &[u8]) -> usize
+    ensures { λ r. ⌜ r ≡ heldWith held (length (now (part .entry))) ⌝ }
+    ensures { λ _. ⌜ now (line .exit) ≡ lineWith (now (line .entry)) held (now (part .entry)) ⌝ }
+{
+    if LONGEST < held {
+        return TOO_LONG;
+    }
+    if LONGEST - held < part.len() {
+        return TOO_LONG;
+    }
+    buffer::copy_in(line, held, part);
+    held + part.len()
+}
+
+// How many characters of a line of n count: none of one that is too long, so that it is `bad`, as an empty line is.
+pub fn counted(n: usize, line: &[u8]) -> usize
+    ensures { λ r. ⌜ Front r (now (line .entry)) ⌝ }
+    ensures { λ r. ⌜ r ≡ countOf n (length (now (line .entry))) ⌝ }
+{
+    if line.len() < n {
+        return 0;
+    }
+    n
+}
