@@ -73,8 +73,10 @@ same-length-2 c = search needs
 
 returns-2 : tie.Need-returns-2
 returns-2 c =
-    let a = c .before .before .before .before .before .before .before .before .before .before .before .before .before .before .before .before .before .before .before .before .args in
-    let good = c .before .before .before .before .before .before .before .before .before .before .before .before .before .before .before .before .before .before .before .before .good in
+    let a = c .before .before .before .before .before .before .before .before .before .before
+    .before .before .before .before .before .before .before .before .before .before .args in
+    let good = c .before .before .before .before .before .before .before .before .before .before
+    .before .before .before .before .before .before .before .before .before .before .good in
     let w : 16 ≡ length (a .e .slots) = search (needs, long) in
     read-done (a .e) (a .sid) (a .storage .now) (a .payload .now) (a .ack .now) w
     (c .before .before .before .before .before .before .before .before .before .before .before .before .before .before .before .before .scan .ensures)
