@@ -5,18 +5,9 @@ use mathlib.Core.Path.{_≡_, sym, ap, _∙_}
 use mathlib.Core.List.{List, _++_, append-assoc}
 use lib.ListN.{length, getD, take, drop, length-take, length-drop, take-append-drop, List·getD-append}
 use lib.Seq.{paste, getD-take, getD-drop, ext-getD, take-at, take-append-le, drop-append-le, drop-at, drop-paste, length-take-le, length-paste-head}
+use Rattle.buffer.specs.Ranges.{Outside, below, above, Agree}
 
--- the index k lies outside the n from index `from`
-pub data Outside (from n k : ℕ) : Type 0 where
-  below : k < from → Outside from n k
-  above : from + n ≤ k → Outside from n k
-
--- two lists of one length agree in the n from index `from`
-pub record Agree (from n : ℕ) (l l' : List ℕ) : Type 0 where
-  pub long : length l ≡ length l'
-  pub same : (k : ℕ) → from ≤ k → k < from + n → getD l k 0 ≡ getD l' k 0
-
--- so they agree in a part of that
+-- two lists that agree in a range agree in a part of it
 pub agree-within : {a n : ℕ} {l l' : List ℕ} (b m : ℕ) → a ≤ b → b + m ≤ a + n → Agree a n l l' → Agree b m l l'
 agree-within b m low high g = record { long = g .long; same = λ k p q. g .same k (omega arith) (omega arith) }
 

@@ -1,2 +1,3 @@
 pub mod Onto
 pub mod Wrote
+pub mod Ranges

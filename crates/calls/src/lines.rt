@@ -6,6 +6,7 @@ use crate::world::World;
 use fields::answer::Buffer;
 use fields::reply;
 use fields::rooms;
+use libc::STDERR_FILENO;
 use libc::STDIN_FILENO;
 use libc::STDOUT_FILENO;
 use text::line::end_of;
@@ -42,10 +43,21 @@ impl Turn {
     }
 }
 
-// The answer line goes out in one write.
+fn lost() {
+    io::write_all(
+        STDERR_FILENO,
+        b"calls: standard output took no more; an answer is lost\n",
+    );
+}
+
+// The answer line goes out in one write. Where it can't, standard error is told.
 fn write(out: &[u8], n: usize) -> bool {
     let k = rooms::within(n, out);
-    io::write_all(STDOUT_FILENO, &out[..k])
+    let went = io::write_all(STDOUT_FILENO, &out[..k]);
+    if !went {
+        lost();
+    }
+    went
 }
 
 // The line that is held is answered.

@@ -18,10 +18,12 @@ use Rattle.report.specs.Lines.{badLine, lineOf, lineRow}
 use Rattle.report.proofs.Told.{bad-line, frame-line}
 use Rattle.table.specs.declared.end.End.{End}
 use Rattle.table.specs.Slots.{unreadOf}
+use Rattle.table.specs.Limits.{base}
 use Rattle.take.specs.declared.Taken.{Taken}
+use Rattle.take.specs.Take.{takeStorage}
 use Rattle.capture.specs.declared.fed.Fed.{Fed}
 use Rattle.capture.specs.Feed.{frameLimit, isFrame, taken, unreadFor, unreadAfter, frameText, lineText, endAfter}
-use Rattle.capture.specs.FeedParts.{frameFed, lineFed}
+use Rattle.capture.specs.FeedParts.{frameFed, lineFed, lineStorage}
 
 -- ---- a frame
 
@@ -51,14 +53,22 @@ module _ (e : End) (line : List ℕ) where
   unfolding lineFed
   fed-bad p l q = rw (p, q)
 
+  pub stored-bad : isFrame line ≡ false → (lent : List ℕ) → lent ≡ lineStorage e line lent
+  unfolding lineStorage
+  stored-bad p lent = rw p
+
   -- what was decoded stands at the front of a buffer
-  pub fed-frame : isFrame line ≡ true → (b b' : List ℕ) (k : ℕ) (r : Fed) → b' ≡ onto (fromHex line) b → k ≡ length (fromHex line)
-      → r ≡ frameFed e (take k b') → r ≡ lineFed e line
-  unfolding lineFed
-  fed-frame p b b' k r o q g =
-      let f : List ℕ = fromHex line in
-      let l : take k b' ≡ f = ap (take k) o ∙ take-at f (drop (length f) b) k (sym q) in
-      g ∙ ap (frameFed e) l ∙ sym (rw p)
+  decoded : (b b' : List ℕ) (k : ℕ) → b' ≡ onto (fromHex line) b → k ≡ length (fromHex line) → take k b' ≡ fromHex line
+  decoded b b' k o q = let f : List ℕ = fromHex line in ap (take k) o ∙ take-at f (drop (length f) b) k (sym q)
+
+  pub fed-frame : isFrame line ≡ true → (b b' : List ℕ) (k : ℕ) (r : Fed) (lent exit : List ℕ) → b' ≡ onto (fromHex line) b → k ≡ length (fromHex line)
+      → (r ≡ frameFed e (take k b')) × (exit ≡ takeStorage base e (take k b') lent) → (r ≡ lineFed e line) × (exit ≡ lineStorage e line lent)
+  unfolding lineFed lineStorage
+  fed-frame p b b' k r lent exit o q g =
+      let l = decoded b b' k o q in (
+        g .0 ∙ ap (frameFed e) l ∙ sym (rw p),
+        g .1 ∙ ap (λ (f : List ℕ). takeStorage base e f lent) l ∙ sym (rw p),
+      )
 
   -- the report's line and the server are those of the definition
   fed-step : (b : Bool) (n : ℕ) → (f : List ℕ)

@@ -5,6 +5,8 @@ use Rattle.cases.specs.Cases.{if}
 use Rattle.text.specs.Hex.{fromHex}
 use Rattle.report.specs.Lines.{badLine, lineOf}
 use Rattle.table.specs.declared.end.End.{End}
+use Rattle.table.specs.Limits.{base}
+use Rattle.take.specs.Take.{takeStorage}
 use Rattle.capture.specs.declared.fed.Fed.{Fed}
 use Rattle.capture.specs.Feed.{isFrame, taken, unreadAfter}
 
@@ -15,3 +17,7 @@ frameFed e frame = record { line = lineOf (taken e frame .number) frame (unreadA
 -- the same of a line
 unfoldable pub lineFed : End → List ℕ → Fed
 lineFed e line = if (isFrame line) (frameFed e (fromHex line)) record { line = badLine; end = e }
+
+-- and the storage after it
+unfoldable pub lineStorage : End → List ℕ → List ℕ → List ℕ
+lineStorage e line lent = if (isFrame line) (takeStorage base e (fromHex line) lent) lent

@@ -1,7 +1,9 @@
 // One line of the input: judged, and fed to the server if it is a frame.
 ghost use mathlib.Core.Path.{_≡_};
+ghost use Rattle.table.specs.Limits.{base};
+ghost use Rattle.take.specs.Take.{takeStorage};
 ghost use Rattle.capture.specs.Feed.{isFrame, unreadFor};
-ghost use Rattle.capture.specs.FeedParts.{frameFed, lineFed};
+ghost use Rattle.capture.specs.FeedParts.{frameFed, lineFed, lineStorage};
 use report::Line;
 use session::record::Session;
 use table::end::End;
@@ -34,6 +36,7 @@ fn unread_for(e: End, frame: &[u8]) -> u32
 // A frame. It goes once to take, and unread packets are counted after it.
 fn frame_fed(e: End, frame: &[u8], storage: &mut [u8; storage::LENGTH]) -> Fed
     ensures { λ r. ⌜ r ≡ frameFed e (now (frame .entry)) ⌝ }
+    ensures { λ _. ⌜ now (storage .exit) ≡ takeStorage base e (now (frame .entry)) (now (storage .entry)) ⌝ }
 {
     let t = take::take(e, frame, storage);
     let after = t.end;
@@ -57,6 +60,7 @@ fn is_frame(line: &[u8]) -> bool
 // Any line.
 pub fn one_line(e: End, line: &[u8], storage: &mut [u8; storage::LENGTH]) -> Fed
     ensures { λ r. ⌜ r ≡ lineFed e (now (line .entry)) ⌝ }
+    ensures { λ _. ⌜ now (storage .exit) ≡ lineStorage e (now (line .entry)) (now (storage .entry)) ⌝ }
 {
     if !is_frame(line) {
         return Fed {

@@ -14,9 +14,9 @@ use Rattle.wire.specs.declared.header.Shape.the-variants.{Sound, Fault}
 use Rattle.wire.specs.declared.kind.Kind.{Kind}
 use Rattle.wire.specs.declared.kind.Kind.the-variants.{Syn, Ack, Fin, Data}
 use Rattle.wire.specs.declared.kind.Flags.the-variants.{One}
-use Rattle.wire.specs.Packet.{flagsOf, headerCases, headerNumber, shapeOf}
+use Rattle.wire.specs.Packet.{flagsOf, SoundHeader, headerCases, headerNumber, shapeOf}
 use Rattle.wire.proofs.Flags.{flags-named}
-use Rattle.wire.proofs.Shapes.{SoundHeader, sound, is-0, is-sound, fault-number, exactly-0}
+use Rattle.wire.proofs.Shapes.{sound, is-0, is-sound, fault-number, exactly-0}
 use Rattle.session.specs.declared.record.Session.{Session}
 use Rattle.session.specs.Record.{payloadLimit}
 use Rattle.effect.specs.Taken.{cellOf}

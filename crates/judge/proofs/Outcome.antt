@@ -15,9 +15,9 @@ use Rattle.wire.specs.declared.kind.Kind.{Kind}
 use Rattle.wire.specs.declared.kind.Kind.the-variants.{Syn, Ack, Fin, Data}
 use Rattle.wire.specs.declared.kind.Flags.{Flags}
 use Rattle.wire.specs.declared.kind.Flags.the-variants.{One}
-use Rattle.wire.specs.Packet.{headerLength, readHeader, noHeader, flagsOf, headerNumber}
+use Rattle.wire.specs.Packet.{headerLength, readHeader, noHeader, flagsOf, SoundHeader, headerNumber}
 use Rattle.wire.proofs.Flags.{flags-named}
-use Rattle.wire.proofs.Shapes.{SoundHeader, exactly-0}
+use Rattle.wire.proofs.Shapes.{exactly-0}
 use Rattle.session.specs.declared.record.Session.{Session}
 use Rattle.session.specs.Record.{payloadLimit, inUse}
 use Rattle.table.specs.declared.end.Role.{Role}

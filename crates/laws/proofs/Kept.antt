@@ -19,11 +19,9 @@ use Rattle.wire.specs.declared.kind.Kind.the-variants.{Syn, Ack, Fin, Data}
 use Rattle.wire.specs.declared.kind.Flags.{Flags}
 use Rattle.wire.specs.declared.kind.Flags.the-variants.{One, Wrong}
 use Rattle.wire.specs.Packet as packet
-use Rattle.wire.specs.Packet.{headerLength, readHeader, flagsOf, lengthFits, headerCases}
-use Rattle.wire.proofs.Numbers.{AreBytes}
+use Rattle.wire.specs.Packet.{AreBytes, headerLength, readHeader, flagsOf, lengthFits, SoundHeader, headerCases}
 use Rattle.wire.proofs.Headers.{read-fits}
 use Rattle.wire.proofs.Shapes as shapes
-use Rattle.wire.proofs.Shapes.{SoundHeader}
 use Rattle.session.specs.declared.record.State.{State}
 use Rattle.session.specs.declared.record.State.the-variants as state
 use Rattle.session.specs.declared.record.Session.{Session}

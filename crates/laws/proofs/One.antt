@@ -1,4 +1,5 @@
--- One result: two results that a call's promise admits are equal, buffers included.
+-- One result: two results that a call's promise admits are equal, buffers included. The promises of `feed` and of the functions below the calls
+-- are equations themselves, and `one-result` says it of each.
 use Prim.Native.Nat.{ℕ}
 use mathlib.Core.Path.{_≡_, sym, _∙_}
 use mathlib.Core.List.{List}
@@ -19,33 +20,33 @@ use Rattle.close.specs.Close.{ClosePromise}
 use Rattle.shutdown.specs.Shutdown.{ShutdownPromise}
 use Rattle.take.specs.Take.{TakePromise}
 
--- what two things both are
-same : {A : Type 0} {a b c : A} → a ≡ c → b ≡ c → a ≡ b
-same p q = p ∙ sym q
+-- of anything that a promise gives by an equation there is one
+pub one-result : {A : Type 0} {a b c : A} → a ≡ c → b ≡ c → a ≡ b
+one-result p q = p ∙ sym q
 
 pub start-one : {role : Role} {r r' : Started} → StartPromise role r → StartPromise role r' → r ≡ r'
-start-one p q = same (p .answer) (q .answer)
+start-one p q = one-result (p .answer) (q .answer)
 
 pub open-one : {e : End} {lent : List ℕ} {r r' : Opened} {exit exit' : List ℕ} → OpenPromise e lent r exit → OpenPromise e lent r' exit' → (r ≡ r')
     × (exit ≡ exit')
-open-one p q = (same (p .answer) (q .answer), same (p .packet) (q .packet))
+open-one p q = (one-result (p .answer) (q .answer), one-result (p .packet) (q .packet))
 
 pub send-one : {e : End} {sid : ℕ} {payload lent : List ℕ} {r r' : Sent} {exit exit' : List ℕ}
     → SendPromise e sid payload lent r exit → SendPromise e sid payload lent r' exit' → (r ≡ r') × (exit ≡ exit')
-send-one p q = (same (p .answer) (q .answer), same (p .packet) (q .packet))
+send-one p q = (one-result (p .answer) (q .answer), one-result (p .packet) (q .packet))
 
 pub read-one : {e : End} {sid : ℕ} {storage lent lentAck : List ℕ} {r r' : Got} {exit exitAck exit' exitAck' : List ℕ}
     → ReadPromise e sid storage lent lentAck r exit exitAck → ReadPromise e sid storage lent lentAck r' exit' exitAck'
     → (r ≡ r') × (exit ≡ exit') × (exitAck ≡ exitAck')
-read-one p q = (same (p .answer) (q .answer), same (p .payload) (q .payload), same (p .ack) (q .ack))
+read-one p q = (one-result (p .answer) (q .answer), one-result (p .payload) (q .payload), one-result (p .ack) (q .ack))
 
 pub close-one : {e : End} {sid : ℕ} {lent : List ℕ} {r r' : Closed} {exit exit' : List ℕ}
     → ClosePromise e sid lent r exit → ClosePromise e sid lent r' exit' → (r ≡ r') × (exit ≡ exit')
-close-one p q = (same (p .answer) (q .answer), same (p .packet) (q .packet))
+close-one p q = (one-result (p .answer) (q .answer), one-result (p .packet) (q .packet))
 
 pub shutdown-one : {e : End} {r r' : Stopped} → ShutdownPromise e r → ShutdownPromise e r' → r ≡ r'
-shutdown-one p q = same (p .answer) (q .answer)
+shutdown-one p q = one-result (p .answer) (q .answer)
 
 pub take-one : {e : End} {bytes lent : List ℕ} {r r' : Taken} {exit exit' : List ℕ}
     → TakePromise e bytes lent r exit → TakePromise e bytes lent r' exit' → (r ≡ r') × (exit ≡ exit')
-take-one p q = (same (p .answer) (q .answer), same (p .storage) (q .storage))
+take-one p q = (one-result (p .answer) (q .answer), one-result (p .storage) (q .storage))

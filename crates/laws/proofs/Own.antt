@@ -1,6 +1,5 @@
--- Only its own slot. A call that names a SID, or a packet that does, leaves role and every other slot as they were; and what it answers and
--- emits depends, besides well made, up and role, on the session with that SID alone (open and SYN: on the free slots and the SIDs in use).
--- A fault is apart: it takes the whole end down.
+-- Only its own slot. A call that names a SID, or a packet that does, leaves role, up and every other slot as they were; open and a SYN leave
+-- all but the lowest free slot. A fault is apart: it takes the whole end down.
 use Prim.Native.Nat.{ℕ, zero, suc, _+_, _<_}
 use native.Mathlib.Omega.{arith}
 use mathlib.Core.Path.{_≡_, refl, sym, ap, _∙_}
@@ -33,9 +32,10 @@ use Rattle.open.specs.Open.{openNumber, openedEnd, openDone, openRefused, openO
 use Rattle.send.specs.Send.{sendNumber, sendDone, sendRefused, sendOf, SendPromise}
 use Rattle.read.specs.Read.{readNumber, oldestLength, ackOn, readDone, readRefused, readOf, ReadPromise}
 use Rattle.close.specs.Close.{closeNumber, closeDone, closeRefused, closeOf, ClosePromise}
-use Rattle.laws.proofs.Exact.{take-told}
 use Rattle.judge.specs.Number.{takeNumber, missing}
 use Rattle.take.specs.Take.{takenOn, takenEnd, takeDone, takeRefused, takeOf, TakePromise}
+use Rattle.laws.specs.Apart.{Others, its}
+use Rattle.laws.proofs.Exact.{take-told}
 
 -- ---- slots
 
@@ -59,12 +59,6 @@ either f n a b c p q = by (eqb n 0)
     by : (t : Bool) → f (if t a b) ≡ c
     by true = p
     by false = q
-
--- role and up stay, and so does every slot that doesn't hold the SID
-pub record Others (sid : ℕ) (e d : End) : Type 0 where
-  pub role : d .role ≡ e .role
-  pub up : d .up ≡ e .up
-  pub slots : (j : ℕ) → isOf sid (getD (e .slots) j free) ≡ false → getD (d .slots) j free ≡ getD (e .slots) j free
 
 kept : (sid : ℕ) (e : End) → Others sid e e
 kept sid e = record { role = refl; up = refl; slots = λ j h. refl }
@@ -116,14 +110,6 @@ open-others {e} {lent} p =
           ∙ either (λ (r : Opened). getD (r .end .slots) j free) n a b _ (getD-set-other (e .slots) (lowestFree (e .slots)) j _ free d) refl),
     )
 
--- a packet leaves every slot but its session's, and a SYN every slot but the lowest free one
-abbrev pub its : Flags → Header → End → ℕ → Type 0
-its (One Syn) h e j = j ≡ lowestFree (e .slots)
-its (One Ack) h e j = isOf (h .sid) (getD (e .slots) j free) ≡ true
-its (One Fin) h e j = isOf (h .sid) (getD (e .slots) j free) ≡ true
-its (One Data) h e j = isOf (h .sid) (getD (e .slots) j free) ≡ true
-its Wrong h e j = ⊥
-
 taken-slots : (f : Flags) (h : Header) (e : End) (j : ℕ) → (its f h e j → ⊥) → getD (takenEnd f h e .slots) j free ≡ getD (e .slots) j free
 taken-slots (One Syn) h e j d = getD-set-other (e .slots) (lowestFree (e .slots)) j _ free d
 taken-slots (One Ack) h e j d = stays (h .sid) (takenOn Ack h) (e .slots) j (is-false _ d)
@@ -131,14 +117,14 @@ taken-slots (One Fin) h e j d = stays (h .sid) (takenOn Fin h) (e .slots) j (is-
 taken-slots (One Data) h e j d = stays (h .sid) (takenOn Data h) (e .slots) j (is-false _ d)
 taken-slots Wrong h e j d = refl
 
-taken-same : (f : Flags) (h : Header) (e : End) → (takenEnd f h e .role ≡ e .role) × (takenEnd f h e .up ≡ e .up)
+pub taken-same : (f : Flags) (h : Header) (e : End) → (takenEnd f h e .role ≡ e .role) × (takenEnd f h e .up ≡ e .up)
 taken-same (One Syn) h e = (refl, refl)
 taken-same (One Ack) h e = (refl, refl)
 taken-same (One Fin) h e = (refl, refl)
 taken-same (One Data) h e = (refl, refl)
 taken-same Wrong h e = (refl, refl)
 
--- a number below 20
+-- a packet leaves every slot but its own; a number below 20
 pub take-others : {e : End} {bytes lent exit : List ℕ} {r : Taken} → TakePromise e bytes lent r exit → r .number < 20
     → (r .end .role ≡ e .role) × (r .end .up ≡ e .up)
     × ((j : ℕ) → (its (flagsOf (readHeader bytes .flags)) (readHeader bytes) e j → ⊥) → getD (r .end .slots) j free ≡ getD (e .slots) j free)

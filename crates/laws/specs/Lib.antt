@@ -4,3 +4,4 @@ pub mod Whens
 pub mod Lists
 pub mod Bench
 pub mod Worked
+pub mod Apart

@@ -12,7 +12,7 @@ use borrow.Author.Tests.{lt-ltb, le-ltb, ltb-true, ltb-false}
 use Rattle.buffer.proofs.Parts.{paste-one, paste-then}
 use Rattle.cases.specs.Cases.{if}
 use Rattle.text.specs.Hex.{glyph, digitValue}
-use Rattle.text.specs.Decimal.{digits, decimal}
+use Rattle.text.specs.Decimal.{digits, decimal, said}
 use Rattle.text.proofs.Digits.{glyph-value, glyph-low}
 
 -- any bound over the number will do
@@ -83,11 +83,6 @@ decimal-most (suc k) n h = by (spelled n) (decimal-most k (n / 10) (div-lt-iff-l
     by (high l) p = rw (decimal-high n l, length-append) (omega arith)
 
 -- ---- the digits say the number
-
--- what digits say, read from the front, behind those that said v
-unfoldable pub said : ℕ → List ℕ → ℕ
-said v [] = v
-said v (c ∷ cs) = said (v * 10 + digitValue c) cs
 
 said-append : (v : ℕ) (a b : List ℕ) → said v (a ++ b) ≡ said (said v a) b
 unfolding said

@@ -10,7 +10,7 @@ use lib.Seq.{drop-cons, drop-drop}
 use lib.Dec.{eqb}
 use borrow.Author.Tests.{eq-eqb, ne-eqb, eqb-true}
 use Rattle.cases.specs.Cases.{if}
-use Rattle.text.specs.Lines.{lf, grow, lines, until, firstLine}
+use Rattle.text.specs.Lines.{lf, grow, lines, until, firstLine, joined, ended}
 
 -- ---- up to a character, character by character
 
@@ -86,17 +86,6 @@ unfolding lines
 lines-end text i h = rw (drop-of-length-le text h)
 
 -- ---- the text from its lines
-
--- each line with its LF
-unfoldable pub joined : List (List ℕ) → List ℕ
-joined [] = []
-joined (l ∷ ls) = l ++ (lf ∷ joined ls)
-
--- the text with an LF at its end, where it isn't empty and has none there
-unfoldable pub ended : List ℕ → List ℕ
-ended [] = []
-ended (c ∷ []) = if (eqb c lf) (c ∷ []) (c ∷ lf ∷ [])
-ended (c ∷ d ∷ ds) = c ∷ ended (d ∷ ds)
 
 joined-grow : (c : ℕ) (l : List ℕ) (ls : List (List ℕ)) → joined (grow c (l ∷ ls)) ≡ c ∷ joined (l ∷ ls)
 unfolding joined

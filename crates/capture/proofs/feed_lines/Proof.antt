@@ -5,7 +5,6 @@ use native.Mathlib.Omega.{arith}
 use mathlib.Core.Path.{_≡_, subst}
 use lib.ListN.{length}
 use borrow.Author.Needs.{needs}
-use borrow.Author.Needs.{needs}
 use Rattle.buffer.specs.Onto.{onto}
 use Rattle.buffer.specs.Wrote.{Wrote}
 use Rattle.text.specs.Lines.{lines}
@@ -67,7 +66,7 @@ loop-again c = let loop = c .before .before .before .before .before .before .bef
     let end-of = c .before .before .before .before .before .before .before .end-of in
     let one-line = c .before .before .before .before .one-line in
     let k = c .before .line-row in
-    go-on (loop .inv) (loop-test .taken) (end-of .result) (one-line .result) (k .last .0) (k .result) (end-of .ensures) (one-line .ensures) (k .ensures)
+    go-on (loop .inv) (loop-test .taken) (end-of .result) (one-line .result) (k .last .0) (k .result) (end-of .ensures) (one-line .ensures .0) (k .ensures)
 
 held-requires : tie.Need-held-requires Inv-loop μ-loop
 held-requires c κs = search needs

@@ -35,8 +35,14 @@ slice-aggregate-write-all c =
 write-all-requires : tie.Need-write-all-requires
 write-all-requires c κs = search needs
 
+lost-requires : tie.Need-lost-requires
+lost-requires c κs = search needs
+
 returns : tie.Need-returns
 returns c = search needs
+
+returns-2 : tie.Need-returns-2
+returns-2 c = search needs
 
 pub main-spec : {M : Type 1} → statement M
 main-spec =
@@ -51,4 +57,6 @@ main-spec =
     array-share-prefix-out
     slice-aggregate-write-all
     write-all-requires
-    returns)
+    lost-requires
+    returns
+    returns-2)

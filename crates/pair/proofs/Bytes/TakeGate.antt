@@ -13,9 +13,9 @@ use Rattle.cases.proofs.First.{done-0, done-not, numbered, first-append}
 use Rattle.wire.specs.declared.header.Header.{Header}
 use Rattle.wire.specs.declared.kind.Kind.{Kind}
 use Rattle.wire.specs.declared.kind.Flags.the-variants.{One}
-use Rattle.wire.specs.Packet.{headerLength, readHeader, flagsOf, headerCases, headerNumber}
+use Rattle.wire.specs.Packet.{headerLength, readHeader, flagsOf, SoundHeader, headerCases, headerNumber}
 use Rattle.wire.proofs.Flags.{flags-named}
-use Rattle.wire.proofs.Shapes.{SoundHeader, is-0}
+use Rattle.wire.proofs.Shapes.{is-0}
 use Rattle.session.specs.declared.record.Session.{Session}
 use Rattle.table.specs.declared.end.Role.{Role}
 use Rattle.table.specs.declared.end.End.{End}

@@ -11,7 +11,7 @@ use mathlib.Core.Option.{Option, some}
 use lib.ListN.{length-set}
 use lib.Seq.{getD-set-same, getD-set-other}
 use lib.Dec.{T, eqb}
-use Rattle.buffer.proofs.Ranges.{Agree}
+use Rattle.buffer.specs.Ranges.{Agree}
 use Rattle.cases.proofs.Tests.{never}
 use Rattle.session.specs.declared.record.Session.{Session}
 use Rattle.session.specs.Record.{inUse, free}

@@ -7,7 +7,7 @@ use mathlib.Core.Logic.{_≢_}
 use mathlib.Core.List.{List, [], _++_}
 use lib.ListN.{length, getD, set, take, drop, length-drop}
 use lib.Seq.{paste, getD-set-same, getD-set-other}
-use Rattle.buffer.proofs.Ranges.{Outside, Agree}
+use Rattle.buffer.specs.Ranges.{Outside, Agree}
 use Rattle.wire.specs.declared.header.Header.{Header}
 use Rattle.wire.specs.Packet.{headerLength}
 use Rattle.session.specs.declared.record.Session.{Session}

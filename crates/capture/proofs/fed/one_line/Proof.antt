@@ -6,7 +6,7 @@ use lib.Seq.{length-take-le}
 use borrow.Author.Tests.{not-true, not-false}
 use borrow.Author.Needs.{needs}
 use Rattle.text.proofs.Bytes.{length-from}
-use Rattle.capture.proofs.Frames.{frame-length, fed-bad, fed-frame}
+use Rattle.capture.proofs.Frames.{frame-length, fed-bad, stored-bad, fed-frame}
 use Rattle.capture.proofs.fed.one_line.Statement.{statement}
 use Rattle.capture.proofs.fed.one_line.Tie as tie
 
@@ -20,7 +20,7 @@ returns : tie.Need-returns
 returns c = let is-frame = c .before .before .is-frame in
     let args = c .before .before .before .before .args in
     let p = sym (is-frame .ensures) ∙ not-true _ (c .before .if1 .taken) in
-    fed-bad (args .e) (args .line .now) p (c .bad .result) (c .bad .ensures)
+    (fed-bad (args .e) (args .line .now) p (c .bad .result) (c .bad .ensures), stored-bad (args .e) (args .line .now) p (args .storage .now))
 
 slice-aggregate-decode : tie.Need-slice-aggregate-decode
 slice-aggregate-decode c = search needs
@@ -60,7 +60,7 @@ returns-2 c = let decode = c .before .before .before .before .decode in
     let args = c .before .before .before .before .before .before .before .before .before .args in
     let k = decode in
     let p = sym (is-frame .ensures) ∙ not-false _ (if1 .left) in
-    let g = fed-frame (args .e) (args .line .now) p _ (k .last .1 .0) (k .result) (c .frame-fed .result) in
+    let g = fed-frame (args .e) (args .line .now) p _ (k .last .1 .0) (k .result) (c .frame-fed .result) (args .storage .now) _ in
     g (k .ensures .0) (k .ensures .1) (c .frame-fed .ensures)
 
 pub one-line-spec : {M : Type 1} → statement M
