@@ -22,12 +22,12 @@ use Rattle.send.specs.Send.{SendPromise}
 use Rattle.read.specs.Read.{ReadPromise}
 use Rattle.close.specs.Close.{ClosePromise}
 use Rattle.take.specs.Take.{TakePromise}
-use Rattle.lane.specs.Side.{Side, other}
-use Rattle.lane.proofs.Half.{fr}
-use Rattle.lane.proofs.Told.{all-read}
-use Rattle.lane.proofs.World as lanes
-use Rattle.lane.proofs.Acts.{ends}
-use Rattle.lane.proofs.Alone.{dawn-sim}
+use Rattle.pair.specs.Side.{Side, other}
+use Rattle.pair.proofs.Lane.Half.{fr}
+use Rattle.pair.proofs.Lane.Told.{all-read}
+use Rattle.pair.proofs.Lane.World as lanes
+use Rattle.pair.proofs.Lane.Acts.{ends}
+use Rattle.pair.proofs.Lane.Alone.{dawn-sim}
 use Rattle.pair.specs.World.{Party, Sizes, sized}
 use Rattle.pair.specs.Step.{Open, Send, Read, Close, Take, Step, did, replyTo}
 use Rattle.pair.specs.Seen.{openSeen, sendSeen, readSeen, closeSeen, takeSeen}

@@ -3,8 +3,9 @@
 pub mod Demand3
 pub mod Sixteen
 pub mod Runs
--- All else is means of proof. A session of the pair is a lane (crate lane): two halves whose counters don't wrap, and the packets between them.
--- Each layer stands on those above it.
+-- All else is means of proof. Each layer stands on those above it.
+-- a session of the pair as a lane: two halves whose counters don't wrap, and the packets between them
+pub mod Lane
 -- what the calls give at one end, by slot and by the front part of the channel that take is given
 pub mod Bytes
 -- one record, with its places in the storage, stands for one half of a lane

@@ -12,7 +12,7 @@ use Rattle.session.specs.Record.{payloadLimit, unread}
 use Rattle.table.specs.End.{slotCount, startOf}
 use Rattle.table.specs.Limits.{base}
 use Rattle.table.specs.Well.{wellMade}
-use Rattle.lane.specs.Side.{Side, other}
+use Rattle.pair.specs.Side.{Side, other}
 use Rattle.pair.specs.World.{roleOf, Sizes}
 use Rattle.pair.specs.Step.{Send, Read, Step, replyTo}
 use Rattle.pair.specs.Whose.{Marked, empty}

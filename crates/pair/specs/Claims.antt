@@ -12,7 +12,7 @@ use Rattle.wire.specs.declared.kind.Kind.the-variants.{Syn, Fin}
 use Rattle.wire.specs.Packet.{flagsValue}
 use Rattle.session.specs.declared.record.Session.{Session}
 use Rattle.session.specs.Record.{free, inUse}
-use Rattle.lane.specs.Side.{Side, client, server}
+use Rattle.pair.specs.Side.{Side, client, server}
 use Rattle.pair.specs.Step.{Call, Open, Send, Read, Close, Take, Step, Reply}
 use Rattle.pair.specs.History.{Scene, Entry}
 

@@ -3,7 +3,7 @@ use Prim.Native.Nat.{ℕ}
 use mathlib.Core.List.{List, [], _∷_}
 use mathlib.Core.Option.{Option}
 use Rattle.table.specs.Limits.{Limits}
-use Rattle.lane.specs.Side.{Side}
+use Rattle.pair.specs.Side.{Side}
 use Rattle.pair.specs.World.{World, fresh}
 use Rattle.pair.specs.Step.{Step, Reply, replyTo, next}
 use Rattle.pair.specs.Whose.{Book, empty, whose, noted}

@@ -1,3 +1,4 @@
+pub mod Side
 pub mod World
 pub mod Step
 pub mod Whose

@@ -10,7 +10,7 @@ use Rattle.session.specs.Record.{statedOf}
 use Rattle.table.specs.declared.end.Role.{Role}
 use Rattle.table.specs.declared.end.Role.the-variants.{Client, Server}
 use Rattle.table.specs.End.{startedOf, putOf}
-use Rattle.lane.specs.Side.{Side, client, server}
+use Rattle.pair.specs.Side.{Side, client, server}
 use Rattle.pair.specs.World.{Party, sized}
 use Rattle.pair.specs.Step.{Call, Open, Send, Read, Close, Take, Step}
 use Rattle.pair.specs.History.{Scene, Entry, dawn, history}

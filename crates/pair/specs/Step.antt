@@ -10,7 +10,7 @@ use Rattle.send.specs.Send.{sendOf, sendPacket}
 use Rattle.read.specs.Read.{readOf, readPayload, readAck}
 use Rattle.close.specs.Close.{closeOf, closePacket}
 use Rattle.take.specs.Take.{takeOf, takeStorage}
-use Rattle.lane.specs.Side.{Side, other}
+use Rattle.pair.specs.Side.{Side, other}
 use Rattle.pair.specs.World.{Party, World, with}
 
 -- Every call but start and shutdown, at either side, with any arguments. A room is the length of a lent buffer. Read and take are lent some

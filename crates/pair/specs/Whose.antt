@@ -9,7 +9,7 @@ use Rattle.cases.specs.Cases.{if, done}
 use Rattle.wire.specs.declared.kind.Kind.the-variants.{Syn}
 use Rattle.wire.specs.Packet.{flagsValue}
 use Rattle.table.specs.Slots.{holds, slotOf, lowestFree}
-use Rattle.lane.specs.Side.{Side, other}
+use Rattle.pair.specs.Side.{Side, other}
 use Rattle.pair.specs.World.{Party, World, with}
 use Rattle.pair.specs.Step.{Call, Open, Send, Read, Close, Take, Step, Reply}
 

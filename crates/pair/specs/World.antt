@@ -10,7 +10,7 @@ use Rattle.table.specs.declared.end.Role.the-variants.{Client, Server}
 use Rattle.table.specs.declared.end.End.{End}
 use Rattle.table.specs.End.{startedOf}
 use Rattle.table.specs.Limits.{Limits}
-use Rattle.lane.specs.Side.{Side, client, server}
+use Rattle.pair.specs.Side.{Side, client, server}
 
 abbrev pub roleOf : Side → Role
 roleOf client = Client

@@ -18,7 +18,7 @@ use Rattle.wire.proofs.Headers.{header-length, packet-length}
 use Rattle.wire.proofs.Whole.{Whole, header-whole}
 use Rattle.session.specs.Record.{window}
 use Rattle.open.specs.Open.{synHeader}
-use Rattle.lane.proofs.Half.{Bytes, Packet, dat, ack, fin, seqnumOf, wndwOf}
+use Rattle.pair.proofs.Lane.Half.{Bytes, Packet, dat, ack, fin, seqnumOf, wndwOf}
 
 abbrev pub kindOf : Packet → Kind
 kindOf (dat q v p) = Data

@@ -23,7 +23,7 @@ use Rattle.calling.specs.Calling.{shortStorage}
 use Rattle.open.specs.Open.{synHeader}
 use Rattle.judge.specs.Number.{synCases, otherCases, takeNumber}
 use Rattle.take.specs.Take.{takenOn, takeDone, takeOf, kept, takeStorage}
-use Rattle.lane.proofs.Half.{Packet}
+use Rattle.pair.proofs.Lane.Half.{Packet}
 use Rattle.pair.proofs.Bytes.Encoded.{kindOf, payloadOf, headerFor, packetFor, synFor}
 use Rattle.pair.proofs.Bytes.TakeFront.{packet-number, packet-answer, packet-storage, syn-number, syn-answer, syn-storage}
 

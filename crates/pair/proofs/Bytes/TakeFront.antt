@@ -32,7 +32,7 @@ use Rattle.open.specs.Open.{synHeader}
 use Rattle.judge.specs.Number.{synCases, otherCases, kindCases, takeNumber, missing}
 use Rattle.take.specs.Take.{takenOn, takenEnd, takeDone, takeRefused, takeOf, kept, takenStorage, takeStorage}
 use Rattle.take.proofs.SynKeeps.{syn-keeps}
-use Rattle.lane.proofs.Half.{Packet, dat, ack, fin}
+use Rattle.pair.proofs.Lane.Half.{Packet, dat, ack, fin}
 use Rattle.pair.proofs.Bytes.Encoded.{kindOf, payloadOf, headerFor, packetFor, synFor, packet-whole, syn-whole, syn-bytes, packet-size, syn-size}
 use Rattle.pair.proofs.Bytes.TakeGate.{number-under, number-cut, number-whole, answer-refused, storage-refused, answer-done, storage-done}
 

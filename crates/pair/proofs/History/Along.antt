@@ -10,11 +10,11 @@ use lib.ListN.{getD, replicate, length-replicate, getD-replicate}
 use Rattle.cases.proofs.Tests.{never}
 use Rattle.session.specs.declared.record.Session.{Session}
 use Rattle.session.specs.Record.{free, inUse}
-use Rattle.lane.specs.Side.{Side}
-use Rattle.lane.proofs.World as lanes
-use Rattle.lane.proofs.World.{World}
-use Rattle.lane.proofs.Acts.{Act, act, ends}
-use Rattle.lane.proofs.Begin.{dawn-inv}
+use Rattle.pair.specs.Side.{Side}
+use Rattle.pair.proofs.Lane.World as lanes
+use Rattle.pair.proofs.Lane.World.{World}
+use Rattle.pair.proofs.Lane.Acts.{Act, act, ends}
+use Rattle.pair.proofs.Lane.Begin.{dawn-inv}
 use Rattle.pair.specs.World.{fresh, Sizes, sized}
 use Rattle.pair.specs.Step.{Step}
 use Rattle.pair.specs.Whose.{Marked, empty}

@@ -16,15 +16,15 @@ use Rattle.session.specs.Record.{window}
 use Rattle.table.specs.Slots.{smallestSid}
 use Rattle.table.proofs.Slots.{smallest-here}
 use Rattle.table.proofs.Smallest.{smallest-new}
-use Rattle.lane.specs.Side.{Side, client, server}
-use Rattle.lane.proofs.Half.{Packet, Out, seqnumOf, wndwOf}
-use Rattle.lane.proofs.Lane as lane
-use Rattle.lane.proofs.Lane.{put, get, shut, deliver, Lane, moved, toward}
-use Rattle.lane.proofs.Tables.{Eq?, same, differ, eq?}
-use Rattle.lane.proofs.World.{syn, World}
-use Rattle.lane.proofs.Acts.{Act, dial, greet, turn, act, owner, Fit, again}
-use Rattle.lane.proofs.Heads.{syn-known, packet-toward, packet-held}
-use Rattle.lane.proofs.Alone.{Sim, sim-past, sim-act, alone-syn, alone-packet, Follows}
+use Rattle.pair.specs.Side.{Side, client, server}
+use Rattle.pair.proofs.Lane.Half.{Packet, Out, seqnumOf, wndwOf}
+use Rattle.pair.proofs.Lane.Lane as lane
+use Rattle.pair.proofs.Lane.Lane.{put, get, shut, deliver, Lane, moved, toward}
+use Rattle.pair.proofs.Lane.Tables.{Eq?, same, differ, eq?}
+use Rattle.pair.proofs.Lane.World.{syn, World}
+use Rattle.pair.proofs.Lane.Acts.{Act, dial, greet, turn, act, owner, Fit, again}
+use Rattle.pair.proofs.Lane.Heads.{syn-known, packet-toward, packet-held}
+use Rattle.pair.proofs.Lane.Alone.{Sim, sim-past, sim-act, alone-syn, alone-packet, Follows}
 use Rattle.pair.specs.World.{Party, Sizes, sized}
 use Rattle.pair.specs.Step.{Reply, Open, Read, Step, emitting}
 use Rattle.pair.specs.History.{Scene, Entry, entry, history}

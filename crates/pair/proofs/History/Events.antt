@@ -11,18 +11,18 @@ use mathlib.Core.Option.{none, some}
 use lib.Dec.{eqb, leb→le}
 use Rattle.cases.specs.Cases.{if, done}
 use Rattle.cases.proofs.First.{done-not}
-use Rattle.lane.specs.Side.{Side, client, server, other}
-use Rattle.lane.proofs.Half.{Bytes, Out}
-use Rattle.lane.proofs.Outcomes.{send-all, read-all, close-all}
-use Rattle.lane.proofs.Lane as lane
-use Rattle.lane.proofs.Lane.{moved, stOf, half, Event, event, tookIf, took, gave, onlyAt, reads, Lane}
-use Rattle.lane.proofs.Story.{head-taken, reads-is, accepted-is}
-use Rattle.lane.proofs.Told as lane-told
-use Rattle.lane.proofs.Told.{Tells}
-use Rattle.lane.proofs.World.{World, dawn}
-use Rattle.lane.proofs.Acts.{Act, dial, greet, turn, act, owner, eventsOf, ends, stepsOf}
-use Rattle.lane.proofs.Heads.{packet-toward}
-use Rattle.lane.proofs.Apart.{isolated, isolated-lane, events-first-part, events-told-whole}
+use Rattle.pair.specs.Side.{Side, client, server, other}
+use Rattle.pair.proofs.Lane.Half.{Bytes, Out}
+use Rattle.pair.proofs.Lane.Outcomes.{send-all, read-all, close-all}
+use Rattle.pair.proofs.Lane.Lane as lane
+use Rattle.pair.proofs.Lane.Lane.{moved, stOf, half, Event, event, tookIf, took, gave, onlyAt, reads, Lane}
+use Rattle.pair.proofs.Lane.Story.{head-taken, reads-is, accepted-is}
+use Rattle.pair.proofs.Lane.Told as lane-told
+use Rattle.pair.proofs.Lane.Told.{Tells}
+use Rattle.pair.proofs.Lane.World.{World, dawn}
+use Rattle.pair.proofs.Lane.Acts.{Act, dial, greet, turn, act, owner, eventsOf, ends, stepsOf}
+use Rattle.pair.proofs.Lane.Heads.{packet-toward}
+use Rattle.pair.proofs.Lane.Apart.{isolated, isolated-lane, events-first-part, events-told-whole}
 use Rattle.pair.specs.World.{sized}
 use Rattle.pair.specs.Step.{Step, Reply}
 use Rattle.pair.specs.History.{Scene, Entry, entry, history}

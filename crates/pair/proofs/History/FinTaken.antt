@@ -9,15 +9,15 @@ use lib.Dec.{T}
 use Rattle.wire.specs.declared.kind.Kind.the-variants.{Fin}
 use Rattle.wire.specs.Packet.{flagsValue}
 use Rattle.session.specs.declared.record.State.the-variants.{FinReceived}
-use Rattle.lane.specs.Side.{Side}
-use Rattle.lane.proofs.Half.{Packet, dat, ack, fin}
-use Rattle.lane.proofs.Lane.{deliver, stOf}
-use Rattle.lane.proofs.Inv.{ended}
-use Rattle.lane.proofs.World.{Item, pkt, World, own, WInv}
-use Rattle.lane.proofs.Acts.{Act, act, ends, stepsOf}
-use Rattle.lane.proofs.Heads.{packet-toward}
-use Rattle.lane.proofs.Apart.{isolated-lane}
-use Rattle.lane.proofs.Ended.{final-ended, fin-ends, live-ended}
+use Rattle.pair.specs.Side.{Side}
+use Rattle.pair.proofs.Lane.Half.{Packet, dat, ack, fin}
+use Rattle.pair.proofs.Lane.Lane.{deliver, stOf}
+use Rattle.pair.proofs.Lane.Inv.{ended}
+use Rattle.pair.proofs.Lane.World.{Item, pkt, World, own, WInv}
+use Rattle.pair.proofs.Lane.Acts.{Act, act, ends, stepsOf}
+use Rattle.pair.proofs.Lane.Heads.{packet-toward}
+use Rattle.pair.proofs.Lane.Apart.{isolated-lane}
+use Rattle.pair.proofs.Lane.Ended.{final-ended, fin-ends, live-ended}
 use Rattle.pair.specs.World.{sized}
 use Rattle.pair.specs.Step.{Step, Reply}
 use Rattle.pair.specs.History.{Scene, entry, history}

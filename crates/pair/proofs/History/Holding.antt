@@ -11,12 +11,12 @@ use Rattle.wire.specs.Packet.{headerLength}
 use Rattle.session.specs.declared.record.State.the-variants.{Established}
 use Rattle.session.specs.Counter.{minus}
 use Rattle.session.specs.Record.{finSent, inUse, unread}
-use Rattle.lane.specs.Side.{Side}
-use Rattle.lane.proofs.Half.{St, est, fr, sOf, send}
-use Rattle.lane.proofs.Lane.{stOf, half}
-use Rattle.lane.proofs.Story.{window-opens}
-use Rattle.lane.proofs.Told.{told-eleven}
-use Rattle.lane.proofs.World.{pick, World}
+use Rattle.pair.specs.Side.{Side}
+use Rattle.pair.proofs.Lane.Half.{St, est, fr, sOf, send}
+use Rattle.pair.proofs.Lane.Lane.{stOf, half}
+use Rattle.pair.proofs.Lane.Story.{window-opens}
+use Rattle.pair.proofs.Lane.Told.{told-eleven}
+use Rattle.pair.proofs.Lane.World.{pick, World}
 use Rattle.pair.specs.World.{sized}
 use Rattle.pair.specs.Step.{Send, Read, Reply, replyTo}
 use Rattle.pair.specs.History.{Scene}

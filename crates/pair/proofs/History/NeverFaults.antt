@@ -6,12 +6,12 @@ use mathlib.Core.Path.{sym, subst}
 use mathlib.Core.Logic.{_≢_}
 use mathlib.Core.List.{List, [], _∷_}
 use lib.Dec.{T, leb, ltb, leb→le, ltb→lt}
-use Rattle.lane.proofs.Half.{Packet, St, Body, Out}
-use Rattle.lane.proofs.Outcomes.{send-all, read-all, close-all}
-use Rattle.lane.proofs.Lane as lane
-use Rattle.lane.proofs.Lane.{put, get, shut, deliver, move, toward, stOf, half}
-use Rattle.lane.proofs.World.{World}
-use Rattle.lane.proofs.Acts.{Act, dial, greet, turn}
+use Rattle.pair.proofs.Lane.Half.{Packet, St, Body, Out}
+use Rattle.pair.proofs.Lane.Outcomes.{send-all, read-all, close-all}
+use Rattle.pair.proofs.Lane.Lane as lane
+use Rattle.pair.proofs.Lane.Lane.{put, get, shut, deliver, move, toward, stOf, half}
+use Rattle.pair.proofs.Lane.World.{World}
+use Rattle.pair.proofs.Lane.Acts.{Act, dial, greet, turn}
 use Rattle.pair.specs.World.{sized}
 use Rattle.pair.specs.Step.{Step, Reply}
 use Rattle.pair.specs.History.{Scene, history}

@@ -25,10 +25,10 @@ use Rattle.table.proofs.Lowest.{lowest-unused}
 use Rattle.take.specs.declared.Taken.{Taken}
 use Rattle.open.specs.Open.{synHeader}
 use Rattle.take.specs.Take.{takenOn, takeDone, takeOf}
-use Rattle.lane.specs.Side.{Side, other, server}
-use Rattle.lane.proofs.World.{Item, syn, World}
-use Rattle.lane.proofs.Acts.{Act, greet}
-use Rattle.lane.proofs.Heads.{syn-known}
+use Rattle.pair.specs.Side.{Side, other, server}
+use Rattle.pair.proofs.Lane.World.{Item, syn, World}
+use Rattle.pair.proofs.Lane.Acts.{Act, greet}
+use Rattle.pair.proofs.Lane.Heads.{syn-known}
 use Rattle.pair.specs.World.{Party, Sizes, sized}
 use Rattle.pair.specs.Step.{Take, Step, did, acted, reached}
 use Rattle.pair.specs.Whose.{Notes, owners}

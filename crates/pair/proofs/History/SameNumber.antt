@@ -6,12 +6,12 @@ use mathlib.Core.Path.{_≡_, sym, ap, _∙_, subst}
 use mathlib.Core.Logic.{inl, inr}
 use mathlib.Core.List.{List, _∷_}
 use mathlib.Core.Option.{some}
-use Rattle.lane.specs.Side.{Side}
-use Rattle.lane.proofs.World.{World}
-use Rattle.lane.proofs.Acts.{Act, dial, greet, turn, act, ends}
-use Rattle.lane.proofs.Rows.{setNum-same}
-use Rattle.lane.proofs.Heads.{listed-born}
-use Rattle.lane.proofs.Runs.{sid-kept}
+use Rattle.pair.specs.Side.{Side}
+use Rattle.pair.proofs.Lane.World.{World}
+use Rattle.pair.proofs.Lane.Acts.{Act, dial, greet, turn, act, ends}
+use Rattle.pair.proofs.Lane.Rows.{setNum-same}
+use Rattle.pair.proofs.Lane.Heads.{listed-born}
+use Rattle.pair.proofs.Lane.Runs.{sid-kept}
 use Rattle.pair.specs.World.{sized}
 use Rattle.pair.specs.Step.{Step, Reply}
 use Rattle.pair.specs.History.{Scene, entry, history}

@@ -7,11 +7,11 @@ use mathlib.Core.List.{List, [], _∷_, _++_, append-nil, append-assoc, flatMap,
 use mathlib.Core.Option.{some, Option, none}
 use lib.ListN.{length, drop, length-append}
 use lib.Seq.{drop-at}
-use Rattle.lane.specs.Side.{Side}
-use Rattle.lane.proofs.Half.{Packet}
-use Rattle.lane.proofs.Lane.{Call, put, get, shut, deliver}
-use Rattle.lane.proofs.World.{Item, syn, pkt, World, pushItem, rest as behind, after}
-use Rattle.lane.proofs.Heads.{Below, items-below}
+use Rattle.pair.specs.Side.{Side}
+use Rattle.pair.proofs.Lane.Half.{Packet}
+use Rattle.pair.proofs.Lane.Lane.{Call, put, get, shut, deliver}
+use Rattle.pair.proofs.Lane.World.{Item, syn, pkt, World, pushItem, rest as behind, after}
+use Rattle.pair.proofs.Lane.Heads.{Below, items-below}
 use Rattle.pair.specs.World.{Party}
 use Rattle.pair.specs.Whose.{marked, Marked, Notes, sender, rest}
 use Rattle.pair.specs.History.{Scene}

@@ -18,12 +18,12 @@ use Rattle.table.proofs.SlotAt.{At, at-holds, at-slot, slot-at, held-within, he
 use Rattle.table.proofs.Lowest.{lowest-within, lowest-unused, full-used}
 use Rattle.table.specs.Well.{wellMade}
 use Rattle.calling.specs.Calling.{shortStorage}
-use Rattle.lane.specs.Side.{Side}
-use Rattle.lane.proofs.Lane.{half, stOf}
-use Rattle.lane.proofs.Inv.{Ranges}
-use Rattle.lane.proofs.Story.{ranges-at}
-use Rattle.lane.proofs.Tables.{has}
-use Rattle.lane.proofs.World.{World}
+use Rattle.pair.specs.Side.{Side}
+use Rattle.pair.proofs.Lane.Lane.{half, stOf}
+use Rattle.pair.proofs.Lane.Inv.{Ranges}
+use Rattle.pair.proofs.Lane.Story.{ranges-at}
+use Rattle.pair.proofs.Lane.Tables.{has}
+use Rattle.pair.proofs.Lane.World.{World}
 use Rattle.pair.specs.World.{sized}
 use Rattle.pair.specs.Whose.{named}
 use Rattle.pair.specs.History.{Scene}

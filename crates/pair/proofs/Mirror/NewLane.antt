@@ -17,12 +17,12 @@ use Rattle.session.specs.Record.{inUse, free, freshOf}
 use Rattle.table.specs.Slots.{lowestFree, full}
 use Rattle.table.specs.End.{putOf}
 use Rattle.table.proofs.Lowest.{lowest-within, lowest-unused}
-use Rattle.lane.specs.Side.{Side}
-use Rattle.lane.proofs.Half.{est, fresh}
-use Rattle.lane.proofs.Lane.{half, stOf}
-use Rattle.lane.proofs.Tables.{has, has-head, has-cons, or-right, Eq?, same, differ, eq?}
-use Rattle.lane.proofs.World.{World}
-use Rattle.lane.proofs.Sides.{Kept}
+use Rattle.pair.specs.Side.{Side}
+use Rattle.pair.proofs.Lane.Half.{est, fresh}
+use Rattle.pair.proofs.Lane.Lane.{half, stOf}
+use Rattle.pair.proofs.Lane.Tables.{has, has-head, has-cons, or-right, Eq?, same, differ, eq?}
+use Rattle.pair.proofs.Lane.World.{World}
+use Rattle.pair.proofs.Lane.Sides.{Kept}
 use Rattle.pair.specs.World.{Party}
 use Rattle.pair.specs.Whose.{Marked, Notes, given}
 use Rattle.pair.proofs.Record.Stands.{fresh-stands}

@@ -17,14 +17,14 @@ use Rattle.session.specs.declared.record.Session.{Session}
 use Rattle.session.specs.Record.{inUse, free}
 use Rattle.table.specs.declared.end.End.{End}
 use Rattle.table.specs.End.{putOf}
-use Rattle.lane.specs.Side.{Side, other}
-use Rattle.lane.proofs.Half.{St, Body}
-use Rattle.lane.proofs.Lane.{Call, Lane, stOf, moved}
-use Rattle.lane.proofs.Tables.{has, Eq?, same, differ, eq?}
-use Rattle.lane.proofs.World.{live, World, after, own, WInv}
-use Rattle.lane.proofs.Acts.{Ready}
-use Rattle.lane.proofs.Sides.{others-still, own-half, their-half, own-bound, own-chan, their-chan, their-table}
-use Rattle.lane.proofs.Own.{own-inv}
+use Rattle.pair.specs.Side.{Side, other}
+use Rattle.pair.proofs.Lane.Half.{St, Body}
+use Rattle.pair.proofs.Lane.Lane.{Call, Lane, stOf, moved}
+use Rattle.pair.proofs.Lane.Tables.{has, Eq?, same, differ, eq?}
+use Rattle.pair.proofs.Lane.World.{live, World, after, own, WInv}
+use Rattle.pair.proofs.Lane.Acts.{Ready}
+use Rattle.pair.proofs.Lane.Sides.{others-still, own-half, their-half, own-bound, own-chan, their-chan, their-table}
+use Rattle.pair.proofs.Lane.Own.{own-inv}
 use Rattle.pair.specs.World.{Party, with}
 use Rattle.pair.specs.Step.{reached}
 use Rattle.pair.specs.Whose.{Marked, Notes, marked}

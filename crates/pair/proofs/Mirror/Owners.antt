@@ -10,7 +10,7 @@ use lib.ListN.{length}
 use lib.Dec.{T, eqb}
 use Rattle.cases.specs.Cases.{if}
 use Rattle.cases.proofs.Tests.{never}
-use Rattle.lane.proofs.Tables.{has, NoDup, has-head, has-cons, or-right, false-T, pigeon}
+use Rattle.pair.proofs.Lane.Tables.{has, NoDup, has-head, has-cons, or-right, false-T, pigeon}
 
 -- one of the first n slots is in use and is j's
 pub record Slot (used : ℕ → Bool) (owner : ℕ → ℕ) (n j : ℕ) : Type 0 where

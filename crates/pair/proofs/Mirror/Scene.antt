@@ -7,10 +7,10 @@ use lib.ListN.{length, getD}
 use lib.Dec.{T}
 use Rattle.session.specs.declared.record.Session.{Session}
 use Rattle.session.specs.Record.{inUse, free}
-use Rattle.lane.specs.Side.{Side}
-use Rattle.lane.proofs.Lane.{half, stOf}
-use Rattle.lane.proofs.Tables.{has}
-use Rattle.lane.proofs.World.{Item, syn, pkt, World, WInv}
+use Rattle.pair.specs.Side.{Side}
+use Rattle.pair.proofs.Lane.Lane.{half, stOf}
+use Rattle.pair.proofs.Lane.Tables.{has}
+use Rattle.pair.proofs.Lane.World.{Item, syn, pkt, World, WInv}
 use Rattle.pair.specs.World.{Party, roleOf}
 use Rattle.pair.specs.Whose.{Marked, Notes}
 use Rattle.pair.specs.History.{Scene}

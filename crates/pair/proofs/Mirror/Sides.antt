@@ -1,6 +1,6 @@
 -- The two sides: what holds at one side and at the other holds at both; and a step replaces both.
 use mathlib.Core.Path.{_≡_, refl}
-use Rattle.lane.specs.Side.{Side, client, server, other}
+use Rattle.pair.specs.Side.{Side, client, server, other}
 use Rattle.pair.specs.World.{with}
 
 pub sides : (P : Side → Type 0) (k : Side) → P k → P (other k) → (j : Side) → P j

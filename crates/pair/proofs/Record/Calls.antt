@@ -25,9 +25,9 @@ use Rattle.table.specs.Storage.{placeStart}
 use Rattle.send.specs.Send.{sendCases, dataHeader}
 use Rattle.read.specs.Read.{oldestLength, readCases, ackHeader, ackOn, oldestIn}
 use Rattle.close.specs.Close.{closeCases, finHeader}
-use Rattle.lane.proofs.Half.{Bytes, St, est, fs, fr, gone, Body, sOf, gOf, dat, Out, Room, sent, shut, tight, send, fin, ending, close, ack, later}
-use Rattle.lane.proofs.Half.{cramped, readOne, readLast, readE, readR, read}
-use Rattle.lane.proofs.Inv.{Ranges}
+use Rattle.pair.proofs.Lane.Half.{Bytes, St, est, fs, fr, gone, Body, sOf, gOf, dat, Out, Room, sent, shut, tight, send, fin, ending, close, ack, later}
+use Rattle.pair.proofs.Lane.Half.{cramped, readOne, readLast, readE, readR, read}
+use Rattle.pair.proofs.Lane.Inv.{Ranges}
 use Rattle.pair.specs.World.{sized}
 use Rattle.pair.proofs.Bytes.Encoded.{packetFor, headerFor, handed}
 use Rattle.pair.proofs.Record.Stands.{stateOf, Stands, turned-stands, unread-counts, Lies, lies-place}

@@ -8,7 +8,7 @@ use mathlib.Core.List.{List, [], _∷_}
 use Rattle.cases.specs.Cases.{Case, _⇒_, first}
 use Rattle.session.specs.declared.record.Session.{Session}
 use Rattle.session.specs.Record.{inUse, free}
-use Rattle.lane.proofs.Half.{St, gone, Body, Out, refuse, unless}
+use Rattle.pair.proofs.Lane.Half.{St, gone, Body, Out, refuse, unless}
 use Rattle.pair.proofs.Bytes.Encoded.{emitted, handed}
 use Rattle.pair.proofs.Record.Stands.{stateOf, Stands}
 

@@ -17,7 +17,7 @@ use Rattle.session.specs.Record.{place}
 use Rattle.table.specs.Storage.{storageLength, placeStart}
 use Rattle.table.proofs.Places.{place-agrees, slot-outside, stored-length, stored-here, stored-outside, stored-else, stored-append}
 use Rattle.take.specs.Take.{kept}
-use Rattle.lane.proofs.Half.{Bytes, St, Body}
+use Rattle.pair.proofs.Lane.Half.{Bytes, St, Body}
 use Rattle.pair.specs.World.{sized}
 use Rattle.pair.proofs.Record.Stands.{Stands, Lies, unread-bound}
 

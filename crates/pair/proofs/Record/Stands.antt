@@ -18,9 +18,9 @@ use Rattle.session.specs.Well.{InOrder}
 use Rattle.session.specs.Changes.{withState}
 use Rattle.session.proofs.Wrap.{minus-counts, plus-counts}
 use Rattle.table.specs.Storage.{placeStart}
-use Rattle.lane.proofs.Half.{Bytes, St, est, fs, fr, gone, Body, sOf, gOf, rOf, fresh}
-use Rattle.lane.proofs.Inv.{Ranges}
-use Rattle.lane.proofs.World.{live}
+use Rattle.pair.proofs.Lane.Half.{Bytes, St, est, fs, fr, gone, Body, sOf, gOf, rOf, fresh}
+use Rattle.pair.proofs.Lane.Inv.{Ranges}
+use Rattle.pair.proofs.Lane.World.{live}
 
 abbrev pub stateOf : St → State
 stateOf est = Established

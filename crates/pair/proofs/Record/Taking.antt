@@ -31,9 +31,9 @@ use Rattle.session.proofs.Wrap.{minus-counts, plus-counts, place-counts, same-c
 use Rattle.table.specs.Storage.{storageLength, placeStart}
 use Rattle.judge.specs.Number.{otherCases}
 use Rattle.take.specs.Take.{takenOn, kept}
-use Rattle.lane.proofs.Half.{Bytes, St, est, fs, fr, gone, Packet, dat, ack, fin, Body, sOf, gOf, rOf, Out, winOk, nextOk, seqOk, checked, plain}
-use Rattle.lane.proofs.Half.{stored, raised, take, seqnumOf, wndwOf}
-use Rattle.lane.proofs.Inv.{Ranges}
+use Rattle.pair.proofs.Lane.Half.{Bytes, St, est, fs, fr, gone, Packet, dat, ack, fin, Body, sOf, gOf, rOf, Out, winOk, nextOk, seqOk, checked, plain}
+use Rattle.pair.proofs.Lane.Half.{stored, raised, take, seqnumOf, wndwOf}
+use Rattle.pair.proofs.Lane.Inv.{Ranges}
 use Rattle.pair.specs.World.{sized}
 use Rattle.pair.proofs.Bytes.Encoded.{kindOf, payloadOf, headerFor, packetFor, packet-size}
 use Rattle.pair.proofs.Record.Stands.{stateOf, Stands, turned-stands, window-counts, room-counts, Lies, lies-place, unread-bound}

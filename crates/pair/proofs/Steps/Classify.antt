@@ -21,10 +21,10 @@ use Rattle.table.specs.Slots.{holds, full}
 use Rattle.calling.specs.Calling.{shortStorage}
 use Rattle.open.specs.Open.{isServer, openRefused, openOf, openPacket}
 use Rattle.judge.specs.Number.{takeNumber, missing}
-use Rattle.lane.specs.Side.{Side, client, server}
-use Rattle.lane.proofs.World.{Item, syn, pkt, World}
-use Rattle.lane.proofs.Acts.{Act}
-use Rattle.lane.proofs.Heads.{no-syn, syn-born, syn-known}
+use Rattle.pair.specs.Side.{Side, client, server}
+use Rattle.pair.proofs.Lane.World.{Item, syn, pkt, World}
+use Rattle.pair.proofs.Lane.Acts.{Act}
+use Rattle.pair.proofs.Lane.Heads.{no-syn, syn-born, syn-known}
 use Rattle.pair.specs.World.{Party, Sizes, sized}
 use Rattle.pair.specs.Step.{Call, Open, Send, Read, Close, Take, Step}
 use Rattle.pair.specs.Whose.{Marked, named, sender}

@@ -11,13 +11,13 @@ use Rattle.session.specs.Changes.{closedOn}
 use Rattle.table.specs.End.{putOf}
 use Rattle.close.specs.declared.Closed.{Closed}
 use Rattle.close.specs.Close.{finHeader}
-use Rattle.lane.specs.Side.{Side}
-use Rattle.lane.proofs.Half.{St, Body, Out, Room, close}
-use Rattle.lane.proofs.Outcomes.{close-all}
-use Rattle.lane.proofs.Lane.{half, stOf, shut, moved}
-use Rattle.lane.proofs.Tables.{has}
-use Rattle.lane.proofs.World.{World}
-use Rattle.lane.proofs.Acts.{turn}
+use Rattle.pair.specs.Side.{Side}
+use Rattle.pair.proofs.Lane.Half.{St, Body, Out, Room, close}
+use Rattle.pair.proofs.Lane.Outcomes.{close-all}
+use Rattle.pair.proofs.Lane.Lane.{half, stOf, shut, moved}
+use Rattle.pair.proofs.Lane.Tables.{has}
+use Rattle.pair.proofs.Lane.World.{World}
+use Rattle.pair.proofs.Lane.Acts.{turn}
 use Rattle.pair.specs.World.{Party, sized}
 use Rattle.pair.specs.Step as step
 use Rattle.pair.specs.Step.{Close, emitting, did}

@@ -18,15 +18,15 @@ use Rattle.table.specs.Storage.{storageLength}
 use Rattle.table.specs.End.{putOf}
 use Rattle.calling.specs.Calling.{shortStorage}
 use Rattle.take.specs.Take.{takenOn, takeDone, takeOf, kept, takeStorage}
-use Rattle.lane.specs.Side.{Side}
-use Rattle.lane.proofs.Half.{Packet, Out}
-use Rattle.lane.proofs.Half as half'
-use Rattle.lane.proofs.Lane.{Lane, deliver, deliverTo, half, stOf, moved}
-use Rattle.lane.proofs.Story.{head-taken}
-use Rattle.lane.proofs.Tables.{has}
-use Rattle.lane.proofs.World.{Item, pkt, pick, World}
-use Rattle.lane.proofs.Acts.{turn}
-use Rattle.lane.proofs.Heads.{packet-toward, packet-zero, packet-held}
+use Rattle.pair.specs.Side.{Side}
+use Rattle.pair.proofs.Lane.Half.{Packet, Out}
+use Rattle.pair.proofs.Lane.Half as half'
+use Rattle.pair.proofs.Lane.Lane.{Lane, deliver, deliverTo, half, stOf, moved}
+use Rattle.pair.proofs.Lane.Story.{head-taken}
+use Rattle.pair.proofs.Lane.Tables.{has}
+use Rattle.pair.proofs.Lane.World.{Item, pkt, pick, World}
+use Rattle.pair.proofs.Lane.Acts.{turn}
+use Rattle.pair.proofs.Lane.Heads.{packet-toward, packet-zero, packet-held}
 use Rattle.pair.specs.World.{Sizes, sized}
 use Rattle.pair.specs.Step.{Take, Step, did, acted}
 use Rattle.pair.specs.Whose.{Marked, left, owners}

@@ -14,13 +14,13 @@ use Rattle.table.specs.End.{putOf}
 use Rattle.calling.specs.Calling.{shortStorage}
 use Rattle.open.specs.Open.{synHeader}
 use Rattle.take.specs.Take.{takeDone, takeOf, takeStorage}
-use Rattle.lane.specs.Side.{Side, client, server}
-use Rattle.lane.proofs.Tables.{has, false-T}
-use Rattle.lane.proofs.World.{Item, syn, World, welcomed}
-use Rattle.lane.proofs.Acts.{greet}
-use Rattle.lane.proofs.Heads.{syn-born, syn-new, syn-room}
-use Rattle.lane.proofs.Sides.{Kept}
-use Rattle.lane.proofs.Begin.{welcomed-inv}
+use Rattle.pair.specs.Side.{Side, client, server}
+use Rattle.pair.proofs.Lane.Tables.{has, false-T}
+use Rattle.pair.proofs.Lane.World.{Item, syn, World, welcomed}
+use Rattle.pair.proofs.Lane.Acts.{greet}
+use Rattle.pair.proofs.Lane.Heads.{syn-born, syn-new, syn-room}
+use Rattle.pair.proofs.Lane.Sides.{Kept}
+use Rattle.pair.proofs.Lane.Begin.{welcomed-inv}
 use Rattle.pair.specs.World.{Sizes, sized}
 use Rattle.pair.specs.Step.{Take, Step}
 use Rattle.pair.specs.Whose.{given}

@@ -17,15 +17,15 @@ use Rattle.table.specs.Slots.{lowestFree, full, smallestSid}
 use Rattle.table.specs.End.{putOf}
 use Rattle.table.proofs.Smallest.{smallest-new, smallest-low}
 use Rattle.open.specs.Open.{isServer, openDone, openOf, openPacket}
-use Rattle.lane.specs.Side.{Side, client, server}
-use Rattle.lane.proofs.Lane.{begin, half, stOf}
-use Rattle.lane.proofs.Tables.{has, false-T, Eq?, same, differ, eq?}
-use Rattle.lane.proofs.World.{syn, World, opened}
-use Rattle.lane.proofs.Acts.{dial}
-use Rattle.lane.proofs.Rows.{setNum-same, setNum-other}
-use Rattle.lane.proofs.Heads.{items-below, listed-born}
-use Rattle.lane.proofs.Sides.{Kept}
-use Rattle.lane.proofs.Begin.{opened-inv}
+use Rattle.pair.specs.Side.{Side, client, server}
+use Rattle.pair.proofs.Lane.Lane.{begin, half, stOf}
+use Rattle.pair.proofs.Lane.Tables.{has, false-T, Eq?, same, differ, eq?}
+use Rattle.pair.proofs.Lane.World.{syn, World, opened}
+use Rattle.pair.proofs.Lane.Acts.{dial}
+use Rattle.pair.proofs.Lane.Rows.{setNum-same, setNum-other}
+use Rattle.pair.proofs.Lane.Heads.{items-below, listed-born}
+use Rattle.pair.proofs.Lane.Sides.{Kept}
+use Rattle.pair.proofs.Lane.Begin.{opened-inv}
 use Rattle.pair.specs.World.{Sizes, sized}
 use Rattle.pair.specs.Step.{Open}
 use Rattle.pair.specs.Whose.{Marked, given}

@@ -13,12 +13,12 @@ use Rattle.cases.specs.Cases.{Case, first}
 use Rattle.session.specs.declared.record.Session.{Session}
 use Rattle.session.specs.Record.{inUse, free}
 use Rattle.table.specs.End.{putOf}
-use Rattle.lane.specs.Side.{Side}
-use Rattle.lane.proofs.Half.{St, Body, Out, refuse}
-use Rattle.lane.proofs.Lane.{Call, moved, toward}
-use Rattle.lane.proofs.Tables.{has}
-use Rattle.lane.proofs.World.{World, after}
-use Rattle.lane.proofs.Acts.{Ready, turn}
+use Rattle.pair.specs.Side.{Side}
+use Rattle.pair.proofs.Lane.Half.{St, Body, Out, refuse}
+use Rattle.pair.proofs.Lane.Lane.{Call, moved, toward}
+use Rattle.pair.proofs.Lane.Tables.{has}
+use Rattle.pair.proofs.Lane.World.{World, after}
+use Rattle.pair.proofs.Lane.Acts.{Ready, turn}
 use Rattle.table.proofs.Slots.{put-same}
 use Rattle.pair.specs.World.{Party, sized}
 use Rattle.pair.specs.Step as step

@@ -11,12 +11,12 @@ use lib.Dec.{ltb}
 use Rattle.wire.specs.declared.kind.Kind.the-variants.{Syn}
 use Rattle.wire.specs.Packet.{headerLength, flagsValue}
 use Rattle.table.specs.Slots.{smallestSid}
-use Rattle.lane.specs.Side.{Side, client, server}
-use Rattle.lane.proofs.Half.{Packet, Bytes, Out, Room}
-use Rattle.lane.proofs.Lane as lane
-use Rattle.lane.proofs.Lane.{put, get, shut, deliver, moved, toward}
-use Rattle.lane.proofs.World.{Item, syn, pkt, World}
-use Rattle.lane.proofs.Acts.{Act, dial, greet, turn, act, owner}
+use Rattle.pair.specs.Side.{Side, client, server}
+use Rattle.pair.proofs.Lane.Half.{Packet, Bytes, Out, Room}
+use Rattle.pair.proofs.Lane.Lane as lane
+use Rattle.pair.proofs.Lane.Lane.{put, get, shut, deliver, moved, toward}
+use Rattle.pair.proofs.Lane.World.{Item, syn, pkt, World}
+use Rattle.pair.proofs.Lane.Acts.{Act, dial, greet, turn, act, owner}
 use Rattle.pair.specs.World.{Party, sized}
 use Rattle.pair.specs.Step as step
 use Rattle.pair.specs.Step.{Open, Send, Read, Close, Take, Step, Reply, emitting}

@@ -22,13 +22,13 @@ use Rattle.table.specs.End.{putOf}
 use Rattle.table.proofs.Places.{place-inside}
 use Rattle.read.specs.declared.Got.{Got}
 use Rattle.read.specs.Read.{oldestLength, readCases, ackOn, oldestIn, readDone}
-use Rattle.lane.specs.Side.{Side}
-use Rattle.lane.proofs.Half.{St, Body, Out, Room, read}
-use Rattle.lane.proofs.Outcomes.{read-all}
-use Rattle.lane.proofs.Lane.{half, stOf, get, moved}
-use Rattle.lane.proofs.Tables.{has}
-use Rattle.lane.proofs.World.{World}
-use Rattle.lane.proofs.Acts.{turn}
+use Rattle.pair.specs.Side.{Side}
+use Rattle.pair.proofs.Lane.Half.{St, Body, Out, Room, read}
+use Rattle.pair.proofs.Lane.Outcomes.{read-all}
+use Rattle.pair.proofs.Lane.Lane.{half, stOf, get, moved}
+use Rattle.pair.proofs.Lane.Tables.{has}
+use Rattle.pair.proofs.Lane.World.{World}
+use Rattle.pair.proofs.Lane.Acts.{turn}
 use Rattle.pair.specs.World.{Party, sized}
 use Rattle.pair.specs.Step as step
 use Rattle.pair.specs.Step.{Read, did}

@@ -6,8 +6,8 @@ use mathlib.Core.List.{List, append-nil}
 use mathlib.Core.Option.{Option, none}
 use lib.ListN.{length}
 use Rattle.cases.proofs.First.{done-not}
-use Rattle.lane.specs.Side.{Side, other}
-use Rattle.lane.proofs.World.{World}
+use Rattle.pair.specs.Side.{Side, other}
+use Rattle.pair.proofs.Lane.World.{World}
 use Rattle.pair.specs.World.{Party, with, sized}
 use Rattle.pair.specs.Step.{Call, Open, Send, Read, Close, Take, Step, Reply, Done, did, acted, reached, taking}
 use Rattle.pair.specs.Whose.{Marked, left, owners, counted, noted}

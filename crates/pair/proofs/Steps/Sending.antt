@@ -11,13 +11,13 @@ use Rattle.session.specs.Changes.{sentOn}
 use Rattle.table.specs.End.{putOf}
 use Rattle.send.specs.declared.Sent.{Sent}
 use Rattle.send.specs.Send.{dataHeader}
-use Rattle.lane.specs.Side.{Side}
-use Rattle.lane.proofs.Half.{Bytes, St, Body, Out, send}
-use Rattle.lane.proofs.Outcomes.{send-all}
-use Rattle.lane.proofs.Lane.{half, stOf, put, moved}
-use Rattle.lane.proofs.Tables.{has}
-use Rattle.lane.proofs.World.{World}
-use Rattle.lane.proofs.Acts.{turn}
+use Rattle.pair.specs.Side.{Side}
+use Rattle.pair.proofs.Lane.Half.{Bytes, St, Body, Out, send}
+use Rattle.pair.proofs.Lane.Outcomes.{send-all}
+use Rattle.pair.proofs.Lane.Lane.{half, stOf, put, moved}
+use Rattle.pair.proofs.Lane.Tables.{has}
+use Rattle.pair.proofs.Lane.World.{World}
+use Rattle.pair.proofs.Lane.Acts.{turn}
 use Rattle.pair.specs.World.{Party, sized}
 use Rattle.pair.specs.Step as step
 use Rattle.pair.specs.Step.{Send, emitting, did}

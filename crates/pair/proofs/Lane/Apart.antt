@@ -5,14 +5,14 @@ use mathlib.Core.Path.{_≡_, refl, sym, ap, ap₂, _∙_, subst}
 use mathlib.Core.Bool.{cond}
 use mathlib.Core.List.{List, [], _∷_}
 use lib.Dec.{eqb}
-use Rattle.lane.specs.Side.{Side, other}
-use Rattle.lane.proofs.Lane.{Lane, Step, Event, next, event, final, trace, accepted, reads}
-use Rattle.lane.proofs.Story.{FirstPart, reads-first-part}
-use Rattle.lane.proofs.Told.{Tells, Some, told-whole}
-use Rattle.lane.proofs.Tables.{Eq?, same, differ, eq?}
-use Rattle.lane.proofs.World.{World, own, opened, welcomed, dawn}
-use Rattle.lane.proofs.Acts.{Act, dial, greet, turn, ends, stepsOf, eventsOf}
-use Rattle.lane.proofs.Sides.{own-moves, others-still}
+use Rattle.pair.specs.Side.{Side, other}
+use Rattle.pair.proofs.Lane.Lane.{Lane, Step, Event, next, event, final, trace, accepted, reads}
+use Rattle.pair.proofs.Lane.Story.{FirstPart, reads-first-part}
+use Rattle.pair.proofs.Lane.Told.{Tells, Some, told-whole}
+use Rattle.pair.proofs.Lane.Tables.{Eq?, same, differ, eq?}
+use Rattle.pair.proofs.Lane.World.{World, own, opened, welcomed, dawn}
+use Rattle.pair.proofs.Lane.Acts.{Act, dial, greet, turn, ends, stepsOf, eventsOf}
+use Rattle.pair.proofs.Lane.Sides.{own-moves, others-still}
 
 -- ---- histories
 

@@ -7,12 +7,12 @@ use mathlib.Core.Logic.{_⊎_, inl, inr}
 use mathlib.Core.Bool.{Bool, not, _||_}
 use mathlib.Core.List.{List, [], _∷_, _++_, append-assoc, append-nil, append-cancel-left}
 use lib.Dec.{T, ltb}
-use Rattle.lane.specs.Side.{Side, client, server, other}
-use Rattle.lane.proofs.Half.{Bytes, Packet, St, est, fs, fr, gone, Body, Out, Room, unless, unless-all, cramped, read, readE, readR, readOne, readLast}
-use Rattle.lane.proofs.Lane.{Call, put, get, shut, deliver, Lane, begin, stOf, half, toward, moved, land, Event, Step, next, final, trace}
-use Rattle.lane.proofs.Lane.{accepted, reads}
-use Rattle.lane.proofs.Inv.{pays, closes, Inv, Good, start}
-use Rattle.lane.proofs.Story.{seen, moved-fine, step-good, got-step, first-part, accepted-is, reads-is}
+use Rattle.pair.specs.Side.{Side, client, server, other}
+use Rattle.pair.proofs.Lane.Half.{Bytes, Packet, St, est, fs, fr, gone, Body, Out, Room, unless, unless-all, cramped, read, readE, readR, readOne, readLast}
+use Rattle.pair.proofs.Lane.Lane.{Call, put, get, shut, deliver, Lane, begin, stOf, half, toward, moved, land, Event, Step, next, final, trace}
+use Rattle.pair.proofs.Lane.Lane.{accepted, reads}
+use Rattle.pair.proofs.Lane.Inv.{pays, closes, Inv, Good, start}
+use Rattle.pair.proofs.Lane.Story.{seen, moved-fine, step-good, got-step, first-part, accepted-is, reads-is}
 
 -- a list that is its own first part twice over has no rest
 no-rest : (a b c : List Bytes) → a ≡ a ++ b ++ c → b ≡ []

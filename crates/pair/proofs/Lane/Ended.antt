@@ -4,16 +4,16 @@ use Prim.Native.Nat.{ℕ}
 use mathlib.Core.Path.{_≡_, sym, ap, _∙_, subst, refl}
 use mathlib.Core.List.{List, [], _∷_}
 use lib.Dec.{T}
-use Rattle.lane.specs.Side.{Side, client, server}
-use Rattle.lane.proofs.Half.{Packet, fin, St, est, fs, fr, gone, Body, Out}
-use Rattle.lane.proofs.Outcomes.{send-all, read-all, close-all}
-use Rattle.lane.proofs.Lane.{Call, put, get, shut, deliver, deliverTo, move, moved, Lane, stOf, half, land, Step, next, final}
-use Rattle.lane.proofs.Inv.{ended}
-use Rattle.lane.proofs.Takes.{passed}
-use Rattle.lane.proofs.Story.{head-passes}
-use Rattle.lane.proofs.World.{Item, pkt, pick, World, own, WInv, live}
-use Rattle.lane.proofs.Heads.{packet-toward}
-use Rattle.lane.proofs.Sides.{own-moves, land-state}
+use Rattle.pair.specs.Side.{Side, client, server}
+use Rattle.pair.proofs.Lane.Half.{Packet, fin, St, est, fs, fr, gone, Body, Out}
+use Rattle.pair.proofs.Lane.Outcomes.{send-all, read-all, close-all}
+use Rattle.pair.proofs.Lane.Lane.{Call, put, get, shut, deliver, deliverTo, move, moved, Lane, stOf, half, land, Step, next, final}
+use Rattle.pair.proofs.Lane.Inv.{ended}
+use Rattle.pair.proofs.Lane.Takes.{passed}
+use Rattle.pair.proofs.Lane.Story.{head-passes}
+use Rattle.pair.proofs.Lane.World.{Item, pkt, pick, World, own, WInv, live}
+use Rattle.pair.proofs.Lane.Heads.{packet-toward}
+use Rattle.pair.proofs.Lane.Sides.{own-moves, land-state}
 
 -- a half that has ended and is not gone is in FIN RECEIVED
 pub live-ended : (s : St) → T (live s) → T (ended s) → s ≡ fr

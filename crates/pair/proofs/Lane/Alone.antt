@@ -10,16 +10,16 @@ use mathlib.Core.List.{List, [], _∷_, cons≢nil, head-eq-of-cons-eq}
 use lib.ListN.{length}
 use lib.Dec.{T, ltb, ltb→lt, lt→ltb}
 use borrow.Author.Tests.{eq-eqb}
-use Rattle.lane.specs.Side.{Side, client, server}
-use Rattle.lane.proofs.Half.{Packet}
-use Rattle.lane.proofs.Lane.{Call, put, get, shut, deliver, Lane, stOf, toward, next}
-use Rattle.lane.proofs.Tables.{has, T-true, false-T, has-head}
-use Rattle.lane.proofs.World.{Item, syn, pkt, pick, live, World, bound, own, opened, welcomed, dawn, Line, WInv}
-use Rattle.lane.proofs.Acts.{Act, dial, greet, turn, act, Ready, Fit, owner, again}
-use Rattle.lane.proofs.Heads.{known-born, no-syn, syn-known, syn-born, packet-toward, packet-below}
-use Rattle.lane.proofs.Sides.{own-moves, others-still}
-use Rattle.lane.proofs.Begin.{dawn-inv}
-use Rattle.lane.proofs.Runs.{act-inv}
+use Rattle.pair.specs.Side.{Side, client, server}
+use Rattle.pair.proofs.Lane.Half.{Packet}
+use Rattle.pair.proofs.Lane.Lane.{Call, put, get, shut, deliver, Lane, stOf, toward, next}
+use Rattle.pair.proofs.Lane.Tables.{has, T-true, false-T, has-head}
+use Rattle.pair.proofs.Lane.World.{Item, syn, pkt, pick, live, World, bound, own, opened, welcomed, dawn, Line, WInv}
+use Rattle.pair.proofs.Lane.Acts.{Act, dial, greet, turn, act, Ready, Fit, owner, again}
+use Rattle.pair.proofs.Lane.Heads.{known-born, no-syn, syn-known, syn-born, packet-toward, packet-below}
+use Rattle.pair.proofs.Lane.Sides.{own-moves, others-still}
+use Rattle.pair.proofs.Lane.Begin.{dawn-inv}
+use Rattle.pair.proofs.Lane.Runs.{act-inv}
 
 -- 1 if n is below b, else 0
 abbrev pub reached : ℕ → ℕ → ℕ

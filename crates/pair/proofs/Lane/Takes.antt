@@ -8,11 +8,11 @@ use mathlib.Core.List.{List, [], _∷_, _++_, append-assoc, append-nil, cons≢n
 use mathlib.Core.Option.{none}
 use lib.ListN.{length, length-append}
 use lib.Dec.{T, leb, eqb, le→leb, eqb→eq, eqb-refl, not-T}
-use Rattle.lane.proofs.Half.{Bytes, Packet, dat, ack, fin, St, est, fs, fr, gone, Body, sOf, gOf, rOf, Out, take, refuse, winOk, seqOk, nextOk}
-use Rattle.lane.proofs.Half.{checked, plain, stored, raised, seqnumOf, wndwOf}
-use Rattle.lane.proofs.Lane.{deliver}
-use Rattle.lane.proofs.Inv.{pays, Flow, flow-top, closes, ended, Dir, Inv, arrived, silent, count}
-use Rattle.lane.proofs.Calls.{Fine}
+use Rattle.pair.proofs.Lane.Half.{Bytes, Packet, dat, ack, fin, St, est, fs, fr, gone, Body, sOf, gOf, rOf, Out, take, refuse, winOk, seqOk, nextOk}
+use Rattle.pair.proofs.Lane.Half.{checked, plain, stored, raised, seqnumOf, wndwOf}
+use Rattle.pair.proofs.Lane.Lane.{deliver}
+use Rattle.pair.proofs.Lane.Inv.{pays, Flow, flow-top, closes, ended, Dir, Inv, arrived, silent, count}
+use Rattle.pair.proofs.Lane.Calls.{Fine}
 
 -- ---- the packet at the head is in range
 

@@ -5,8 +5,8 @@ use mathlib.Core.Path.{_≡_, refl}
 use mathlib.Core.Bool.{not, _||_}
 use mathlib.Core.List.{List, [], _∷_}
 use lib.Dec.{T, leb, ltb}
-use Rattle.lane.proofs.Half.{Bytes, St, est, fs, fr, gone, Body, Out, Room, refuse, unless-all, shut, tight, sent, send, cramped, readOne}
-use Rattle.lane.proofs.Half.{readLast, readE, readR, read, ending, close}
+use Rattle.pair.proofs.Lane.Half.{Bytes, St, est, fs, fr, gone, Body, Out, Room, refuse, unless-all, shut, tight, sent, send, cramped, readOne}
+use Rattle.pair.proofs.Lane.Half.{readLast, readE, readR, read, ending, close}
 
 module _ (P : Out → Type 0) (B : Body) where
   -- it holds of every refusal in state s

@@ -7,13 +7,13 @@ use mathlib.Core.Bool.{not}
 use mathlib.Core.List.{List, [], _∷_, _++_, append-assoc, append-nil}
 use lib.ListN.{length}
 use lib.Dec.{T}
-use Rattle.lane.specs.Side.{Side, client, server, other}
-use Rattle.lane.proofs.Half.{Bytes, Packet, St, Body, seqnumOf, wndwOf, est, sOf}
-use Rattle.lane.proofs.Lane.{Call, put, get, shut, deliver, move, Lane, begin, stOf, half, toward, moved, land, Step, next, final, trace, took}
-use Rattle.lane.proofs.Lane.{gave, onlyAt, accepted, reads}
-use Rattle.lane.proofs.Inv.{pays, ended, Inv, Good, swap, start, Ranges, ranges, count}
-use Rattle.lane.proofs.Calls.{Fine, refused, send-fine, read-fine, close-fine}
-use Rattle.lane.proofs.Takes.{InRange, in-range, passed, passes, Taken, take-taken}
+use Rattle.pair.specs.Side.{Side, client, server, other}
+use Rattle.pair.proofs.Lane.Half.{Bytes, Packet, St, Body, seqnumOf, wndwOf, est, sOf}
+use Rattle.pair.proofs.Lane.Lane.{Call, put, get, shut, deliver, move, Lane, begin, stOf, half, toward, moved, land, Step, next, final, trace, took}
+use Rattle.pair.proofs.Lane.Lane.{gave, onlyAt, accepted, reads}
+use Rattle.pair.proofs.Lane.Inv.{pays, ended, Inv, Good, swap, start, Ranges, ranges, count}
+use Rattle.pair.proofs.Lane.Calls.{Fine, refused, send-fine, read-fine, close-fine}
+use Rattle.pair.proofs.Lane.Takes.{InRange, in-range, passed, passes, Taken, take-taken}
 
 -- ---- one step
 

@@ -6,11 +6,11 @@ use mathlib.Core.Bool.{Bool, true, false}
 use mathlib.Core.List.{List, [], _∷_, _++_, append-assoc, append-nil}
 use lib.ListN.{length, length-append}
 use lib.Dec.{T, nleb→lt, leb}
-use Rattle.lane.proofs.Half.{Bytes, Packet, St, est, fs, fr, gone, Body, sOf, gOf, Out, Room, refuse, send, sent, read, readOne, readLast}
-use Rattle.lane.proofs.Half.{later, close, ending}
-use Rattle.lane.proofs.Outcomes.{send-all, read-all, close-all}
-use Rattle.lane.proofs.Lane.{Call, put, get, shut, push, took, gave, deliver}
-use Rattle.lane.proofs.Inv.{pays, pays-append, Flow, flow-push, closes, ended, keeps, Gate, News, Dir, Inv, arrived, silent, count}
+use Rattle.pair.proofs.Lane.Half.{Bytes, Packet, St, est, fs, fr, gone, Body, sOf, gOf, Out, Room, refuse, send, sent, read, readOne, readLast}
+use Rattle.pair.proofs.Lane.Half.{later, close, ending}
+use Rattle.pair.proofs.Lane.Outcomes.{send-all, read-all, close-all}
+use Rattle.pair.proofs.Lane.Lane.{Call, put, get, shut, push, took, gave, deliver}
+use Rattle.pair.proofs.Lane.Inv.{pays, pays-append, Flow, flow-push, closes, ended, keeps, Gate, News, Dir, Inv, arrived, silent, count}
 
 -- one more packet at the tail of a direction whose writer has not closed; its WNDW is the writer's G, which may have grown
 gate-push : (b e : Bool) (n w : ℕ) (l : List Packet) (t m g : ℕ) (x : Packet) → m ≡ n + length (pays l) → t ≤ g

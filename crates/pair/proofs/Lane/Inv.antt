@@ -7,8 +7,8 @@ use mathlib.Core.Bool.{Bool, true, false, not}
 use mathlib.Core.List.{List, [], _++_, _∷_}
 use lib.ListN.{length, length-append}
 use lib.Dec.{T}
-use Rattle.lane.proofs.Half.{Bytes, Packet, St, est, fs, fr, gone, Body, sOf, gOf, rOf, fresh, dat, ack, fin}
-use Rattle.lane.proofs.Lane.{Lane, begin}
+use Rattle.pair.proofs.Lane.Half.{Bytes, Packet, St, est, fs, fr, gone, Body, sOf, gOf, rOf, fresh, dat, ack, fin}
+use Rattle.pair.proofs.Lane.Lane.{Lane, begin}
 
 -- ---- the packets in flight
 

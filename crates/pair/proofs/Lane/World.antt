@@ -8,11 +8,11 @@ use mathlib.Core.List.{List, [], _∷_, _++_}
 use mathlib.Core.Option.{Option, none, some}
 use lib.ListN.{length}
 use lib.Dec.{T, eqb, leb}
-use Rattle.lane.specs.Side.{Side, client, server, other}
-use Rattle.lane.proofs.Half.{Packet, St, est, fs, fr, gone, fresh}
-use Rattle.lane.proofs.Lane.{Call, put, get, shut, deliver, Lane, begin, stOf, toward, moved, land}
-use Rattle.lane.proofs.Inv.{Good}
-use Rattle.lane.proofs.Tables.{has, remove, NoDup, Apart}
+use Rattle.pair.specs.Side.{Side, client, server, other}
+use Rattle.pair.proofs.Lane.Half.{Packet, St, est, fs, fr, gone, fresh}
+use Rattle.pair.proofs.Lane.Lane.{Call, put, get, shut, deliver, Lane, begin, stOf, toward, moved, land}
+use Rattle.pair.proofs.Lane.Inv.{Good}
+use Rattle.pair.proofs.Lane.Tables.{has, remove, NoDup, Apart}
 
 -- a SYN, or a packet, of a lane
 pub data Item : Type 0 where

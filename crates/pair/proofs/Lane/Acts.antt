@@ -7,11 +7,11 @@ use mathlib.Core.Bool.{cond}
 use mathlib.Core.List.{List, [], _∷_}
 use lib.ListN.{length}
 use lib.Dec.{T, eqb}
-use Rattle.lane.specs.Side.{Side, client, server}
-use Rattle.lane.proofs.Half.{Packet}
-use Rattle.lane.proofs.Lane.{Call, put, get, shut, deliver, Step, Event, event}
-use Rattle.lane.proofs.Tables.{has}
-use Rattle.lane.proofs.World.{Item, syn, pkt, World, own, opened, welcomed}
+use Rattle.pair.specs.Side.{Side, client, server}
+use Rattle.pair.proofs.Lane.Half.{Packet}
+use Rattle.pair.proofs.Lane.Lane.{Call, put, get, shut, deliver, Step, Event, event}
+use Rattle.pair.proofs.Lane.Tables.{has}
+use Rattle.pair.proofs.Lane.World.{Item, syn, pkt, World, own, opened, welcomed}
 
 -- the client opens a session under a SID; the server takes the SYN at the head; a session's own call or take at one side
 pub data Act : Type 0 where

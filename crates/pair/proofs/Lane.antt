@@ -1,4 +1,4 @@
--- Lanes: the sessions of a pair without SIDs, slots, bytes and wrap. They are means of proof for demand 3 (crate pair). In reading order:
+-- Lanes: the sessions of a pair without SIDs, slots, bytes and wrap. In reading order:
 -- one half of a session, and what each call and each packet does to it
 pub mod Half
 pub mod Outcomes

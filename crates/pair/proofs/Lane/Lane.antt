@@ -3,8 +3,8 @@
 use Prim.Native.Nat.{ℕ, zero, suc}
 use mathlib.Core.List.{List, [], _∷_, _++_}
 use mathlib.Core.Option.{Option, none, some}
-use Rattle.lane.specs.Side.{Side, client, server}
-use Rattle.lane.proofs.Half.{Bytes, Packet, St, est, Body, fresh, Out, Room, send, read, close, take, refuse}
+use Rattle.pair.specs.Side.{Side, client, server}
+use Rattle.pair.proofs.Lane.Half.{Bytes, Packet, St, est, Body, fresh, Out, Room, send, read, close, take, refuse}
 
 -- a session's own steps: send, read, close, and taking its next packet
 pub data Call : Type 0 where

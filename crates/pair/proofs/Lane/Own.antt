@@ -9,17 +9,17 @@ use mathlib.Core.List.{List, [], _∷_, _++_}
 use mathlib.Core.Option.{Option, none, some}
 use lib.Dec.{T, eqb, leb, le→leb}
 use borrow.Author.Tests.{eq-eqb, ne-eqb}
-use Rattle.lane.specs.Side.{Side, client, server, other}
-use Rattle.lane.proofs.Half.{Packet, est, fresh}
-use Rattle.lane.proofs.Lane.{Call, put, get, shut, deliver, Moved, Lane, begin, push, stOf, toward, moved, land}
-use Rattle.lane.proofs.Inv.{Good}
-use Rattle.lane.proofs.Story.{step-good}
-use Rattle.lane.proofs.Tables.{has, or-left, or-right}
-use Rattle.lane.proofs.World.{Item, syn, pkt, pick, live, World, bound, setNum, keep, pushItem, after, own, Table, Only, Line, NoSyn, WInv}
-use Rattle.lane.proofs.Acts.{Ready}
-use Rattle.lane.proofs.Rows.{setNum-same, setNum-other, table-same, table-step, held-same}
-use Rattle.lane.proofs.Heads.{line-le, listed-born}
-use Rattle.lane.proofs.Sides.{lane-all, land-left, land-push, land-state, their-half}
+use Rattle.pair.specs.Side.{Side, client, server, other}
+use Rattle.pair.proofs.Lane.Half.{Packet, est, fresh}
+use Rattle.pair.proofs.Lane.Lane.{Call, put, get, shut, deliver, Moved, Lane, begin, push, stOf, toward, moved, land}
+use Rattle.pair.proofs.Lane.Inv.{Good}
+use Rattle.pair.proofs.Lane.Story.{step-good}
+use Rattle.pair.proofs.Lane.Tables.{has, or-left, or-right}
+use Rattle.pair.proofs.Lane.World.{Item, syn, pkt, pick, live, World, bound, setNum, keep, pushItem, after, own, Table, Only, Line, NoSyn, WInv}
+use Rattle.pair.proofs.Lane.Acts.{Ready}
+use Rattle.pair.proofs.Lane.Rows.{setNum-same, setNum-other, table-same, table-step, held-same}
+use Rattle.pair.proofs.Lane.Heads.{line-le, listed-born}
+use Rattle.pair.proofs.Lane.Sides.{lane-all, land-left, land-push, land-state, their-half}
 
 -- ---- one more item at the tail of a channel
 
