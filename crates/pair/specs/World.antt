@@ -1,7 +1,6 @@
 -- The pair in demand 3 (document 01): one client and one server, each started once at the beginning, joined by two faithful channels.
 -- The number of slots and the size of a place are arguments; the base has 16 and 512.
 use Prim.Native.Nat.{ℕ, _+_, _^_, _≤_, _<_}
-use mathlib.Core.Bool.{true}
 use mathlib.Core.List.{List, []}
 use Rattle.wire.specs.Packet.{headerLength}
 use Rattle.session.specs.Record.{window}

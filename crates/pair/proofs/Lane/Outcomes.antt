@@ -1,17 +1,21 @@
--- Means of proof. What a call of a half comes to: a refusal whose number is from 4 to 11, in the state that it was in, or what the call gives
+-- Means of proof. What a call of a half comes to: a refusal that harms nobody, from 4 on, in the state that it was in, or what the call gives
 -- when it is done. The cases of each call are gone through here once: what holds of each outcome holds of the call.
 use Prim.Native.Nat.{ℕ}
 use mathlib.Core.Path.{_≡_, refl}
-use mathlib.Core.Bool.{not, _||_}
+use mathlib.Core.Bool.{Bool, not, _&&_, _||_}
 use mathlib.Core.List.{List, [], _∷_}
-use lib.Dec.{T, leb, ltb}
+use lib.Dec.{T, leb, ltb, eqb}
 use Rattle.pair.proofs.Lane.Half.{Bytes, St, est, fs, fr, gone, Body, Out, Room, refuse, unless-all, shut, tight, sent, send, cramped, readOne}
 use Rattle.pair.proofs.Lane.Half.{readLast, readE, readR, read, ending, close}
+
+-- numbers that harm nobody: no fault, not 1 (the end is down), not 12 (it is ill made)
+abbrev pub harmless : ℕ → Bool
+harmless n = ltb n 20 && (not (eqb n 1) && not (eqb n 12))
 
 module _ (P : Out → Type 0) (B : Body) where
   -- it holds of every refusal in state s
   abbrev pub Refusals : St → Type 0
-  Refusals s = (n : ℕ) → T (leb 4 n) → T (ltb n 12) → P (refuse n s B)
+  Refusals s = (n : ℕ) → T (leb 4 n) → T (harmless n) → P (refuse n s B)
 
   pub send-all : (p : Bytes) (R : Room) (s : St) → Refusals s → (s ≡ est → T (not (R .big)) → T (not (shut B)) → P (sent B p)) → P (send p R s B)
   send-all p R est ref y =

@@ -8,7 +8,8 @@ use mathlib.Core.Bool.{Bool, not, _||_}
 use mathlib.Core.List.{List, [], _∷_, _++_, append-assoc, append-nil, append-cancel-left}
 use lib.Dec.{T, ltb}
 use Rattle.pair.specs.Side.{Side, client, server, other}
-use Rattle.pair.proofs.Lane.Half.{Bytes, Packet, St, est, fs, fr, gone, Body, Out, Room, unless, unless-all, cramped, read, readE, readR, readOne, readLast}
+use Rattle.pair.proofs.Lane.Half.{Bytes, Packet, St, est, fs, fr, gone, Body, Out, Room, unless, unless-all, cramped, read}
+use Rattle.pair.proofs.Lane.Half.{readE, readR, readOne, readLast}
 use Rattle.pair.proofs.Lane.Lane.{Call, put, get, shut, deliver, Lane, begin, stOf, half, toward, moved, land, Event, Step, next, final, trace}
 use Rattle.pair.proofs.Lane.Lane.{accepted, reads}
 use Rattle.pair.proofs.Lane.Inv.{pays, closes, Inv, Good, start}

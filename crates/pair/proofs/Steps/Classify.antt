@@ -11,7 +11,7 @@ use mathlib.Core.Bool.{Bool, true, false}
 use mathlib.Core.List.{List, [], _∷_, _++_}
 use mathlib.Core.Option.{none}
 use lib.ListN.{length, take, take-append-drop}
-use lib.Dec.{eqb}
+use lib.Dec.{T, eqb}
 use borrow.Author.Tests.{lt-ltb}
 use Rattle.cases.specs.Cases.{if, first, done}
 use Rattle.cases.proofs.First.{skip, here, says, done-not}
@@ -22,6 +22,7 @@ use Rattle.calling.specs.Calling.{shortStorage}
 use Rattle.open.specs.Open.{isServer, openRefused, openOf, openPacket}
 use Rattle.judge.specs.Number.{takeNumber, missing}
 use Rattle.pair.specs.Side.{Side, client, server}
+use Rattle.pair.proofs.Lane.Outcomes.{harmless}
 use Rattle.pair.proofs.Lane.World.{Item, syn, pkt, World}
 use Rattle.pair.proofs.Lane.Acts.{Act}
 use Rattle.pair.proofs.Lane.Heads.{no-syn, syn-born, syn-known}
@@ -62,8 +63,9 @@ module _ {slots place : ℕ} {x : Scene} {W : World} (m : Mirror slots place x W
     abbrev e : End
     e = x .world k .end
 
-    open-rests : (n : ℕ) → 1 < n → n < 12 → first (openOn (e .role) (full (e .slots)) room) ≡ n → Rested slots place x W (record { side = k; call = Open room })
-    open-rests n low top q = rests m (record { side = k; call = Open room }) n 0 low top (rw (answer, packet)) (rw answer (done-not n _ none (omega arith)))
+    open-rests : (n : ℕ) → 0 < n → T (harmless n) → first (openOn (e .role) (full (e .slots)) room) ≡ n
+        → Rested slots place x W (record { side = k; call = Open room })
+    open-rests n low mild q = rests m (record { side = k; call = Open room }) n 0 low mild (rw (answer, packet)) (rw answer (done-not n _ none (omega arith)))
       where
         answer : openOf (sized place) e room ≡ openRefused n e
         answer = open-answer (sized place) e (made-at m k) (m .at k .up) room ∙ rw q (done-not n _ _ (omega arith))
@@ -72,15 +74,15 @@ module _ {slots place : ℕ} {x : Scene} {W : World} (m : Mirror slots place x W
         packet = open-packet (sized place) e (made-at m k) (m .at k .up) room ∙ rw q (done-not n _ _ (omega arith))
 
   opens : (k : Side) (room : ℕ) → Comes slots place x W k (Open room)
-  opens server room = inl (open-rests server room 2 (omega arith) (omega arith) (says (here (ap isServer (m .at server .role)))))
+  opens server room = inl (open-rests server room 2 (omega arith) tt (says (here (ap isServer (m .at server .role)))))
   opens client room = by (full (x .world client .end .slots)) refl (decLt room headerLength)
     where
       role : isServer (x .world client .end .role) ≡ false
       role = ap isServer (m .at client .role)
 
       by : (b : Bool) → full (x .world client .end .slots) ≡ b → Dec (room < headerLength) → Comes slots place x W client (Open room)
-      by true f d = inl (open-rests client room 3 (omega arith) (omega arith) (says (skip role (here f))))
-      by false f (yes l) = inl (open-rests client room 9 (omega arith) (omega arith) (says (skip role (skip f (here (lt-ltb room headerLength l))))))
+      by true f d = inl (open-rests client room 3 (omega arith) tt (says (skip role (here f))))
+      by false f (yes l) = inl (open-rests client room 9 (omega arith) tt (says (skip role (skip f (here (lt-ltb room headerLength l))))))
       by false f (no l) = inr (_, opening {room = room} (omega arith) (room-full m client f))
 
   -- ---- send, read, close
@@ -95,7 +97,7 @@ module _ {slots place : ℕ} {x : Scene} {W : World} (m : Mirror slots place x W
 
     sends : (payload : List ℕ) (room : ℕ) (b : Bool) → holds sid (p .end .slots) ≡ b → Comes slots place x W k (Send sid payload room)
     sends payload room true h = inr (_, sending (held-lane m k sid h))
-    sends payload room false h = inl (rests m (record { side = k; call = Send sid payload room }) 4 0 (omega arith) (omega arith)
+    sends payload room false h = inl (rests m (record { side = k; call = Send sid payload room }) 4 0 (omega arith) tt
         (rw (
           send-none-answer (sized place) (p .end) (made-at m k) (m .at k .up) sid h payload room,
           send-none-packet (sized place) (p .end) (made-at m k) (m .at k .up) sid h payload room,
@@ -103,7 +105,7 @@ module _ {slots place : ℕ} {x : Scene} {W : World} (m : Mirror slots place x W
 
     reads : (room ack lent : ℕ) (b : Bool) → holds sid (p .end .slots) ≡ b → Comes slots place x W k (Read sid room ack lent)
     reads room ack lent true h = inr (_, reading (held-lane m k sid h))
-    reads room ack lent false h = inl (rests m (record { side = k; call = Read sid room ack lent }) 4 0 (omega arith) (omega arith)
+    reads room ack lent false h = inl (rests m (record { side = k; call = Read sid room ack lent }) 4 0 (omega arith) tt
         (rw (
           read-none-answer (sized place) (p .end) (made-at m k) (m .at k .up) sid h room ack (length (take lent (p .storage))),
           read-none-payload (sized place) (p .end) (made-at m k) (m .at k .up) sid h room ack (take lent (p .storage)),
@@ -112,7 +114,7 @@ module _ {slots place : ℕ} {x : Scene} {W : World} (m : Mirror slots place x W
 
     closes : (room : ℕ) (b : Bool) → holds sid (p .end .slots) ≡ b → Comes slots place x W k (Close sid room)
     closes room true h = inr (_, closing (held-lane m k sid h))
-    closes room false h = inl (rests m (record { side = k; call = Close sid room }) 4 0 (omega arith) (omega arith)
+    closes room false h = inl (rests m (record { side = k; call = Close sid room }) 4 0 (omega arith) tt
         (rw (
           close-none-answer (sized place) (p .end) (made-at m k) (m .at k .up) sid h room,
           close-none-packet (sized place) (p .end) (made-at m k) (m .at k .up) sid h room,
@@ -134,7 +136,7 @@ module _ {slots place : ℕ} {x : Scene} {W : World} (m : Mirror slots place x W
     take-rests b n =
         let bytes = take given (q .coming) in
         rests m (record { side = k; call = Take given lent }) (if b 9 10) (if (eqb (if b 9 10) 10) (missing bytes) 0)
-        (either (λ (n : ℕ). 1 < n) b (omega arith) (omega arith)) (either (λ (n : ℕ). n < 12) b (omega arith) (omega arith))
+        (either (λ (n : ℕ). 0 < n) b (omega arith) (omega arith)) (either (λ (n : ℕ). T (harmless n)) b tt tt)
         (rw (
           waits-answer (sized place) (q .end) bytes (length (take lent (q .storage))) b n,
           waits-storage (sized place) (q .end) bytes (take lent (q .storage)) b n,

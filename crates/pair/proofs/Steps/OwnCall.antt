@@ -11,7 +11,7 @@ use lib.ListN.{length, drop}
 use lib.Dec.{T}
 use Rattle.cases.specs.Cases.{Case, first}
 use Rattle.session.specs.declared.record.Session.{Session}
-use Rattle.session.specs.Record.{inUse, free}
+use Rattle.session.specs.Record.{inUse}
 use Rattle.table.specs.End.{putOf}
 use Rattle.pair.specs.Side.{Side}
 use Rattle.pair.proofs.Lane.Half.{St, Body, Out, refuse}

@@ -7,12 +7,13 @@ use mathlib.Core.Bool.{false}
 use mathlib.Core.List.{List, [], _∷_}
 use mathlib.Core.Option.{none, some}
 use lib.ListN.{length}
-use lib.Dec.{ltb}
+use lib.Dec.{T, ltb}
 use Rattle.wire.specs.declared.kind.Kind.the-variants.{Syn}
 use Rattle.wire.specs.Packet.{headerLength, flagsValue}
 use Rattle.table.specs.Slots.{smallestSid}
 use Rattle.pair.specs.Side.{Side, client, server}
 use Rattle.pair.proofs.Lane.Half.{Packet, Bytes, Out, Room}
+use Rattle.pair.proofs.Lane.Outcomes.{harmless}
 use Rattle.pair.proofs.Lane.Lane as lane
 use Rattle.pair.proofs.Lane.Lane.{put, get, shut, deliver, moved, toward}
 use Rattle.pair.proofs.Lane.World.{Item, syn, pkt, World}
@@ -102,8 +103,6 @@ pub record Acted (slots place : ℕ) (x : Scene) (W : World) (s : Step) (a : Act
 pub record Rested (slots place : ℕ) (x : Scene) (W : World) (s : Step) : Type 0 where
   pub mirror : Mirror slots place (entry (sized place) x s .after) W
   pub whose : entry (sized place) x s .whose ≡ none
-  pub below : entry (sized place) x s .reply .number < 20
   pub refused : entry (sized place) x s .reply .number ≢ 0
-  pub up : entry (sized place) x s .reply .number ≢ 1
-  pub made : entry (sized place) x s .reply .number ≢ 12
+  pub mild : T (harmless (entry (sized place) x s .reply .number))
   pub lengths : Lengths x (entry (sized place) x s .after)

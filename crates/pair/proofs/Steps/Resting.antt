@@ -1,12 +1,14 @@
 -- A step that is refused and is no session's changes nothing: the scene after it stands for the same world of lanes.
 use Prim.Native.Nat.{ℕ, _<_}
 use native.Mathlib.Omega.{arith}
-use mathlib.Core.Path.{_≡_, refl, ap, _∙_}
+use mathlib.Core.Path.{_≡_, refl, sym, ap, _∙_, subst}
 use mathlib.Core.List.{List, append-nil}
 use mathlib.Core.Option.{Option, none}
 use lib.ListN.{length}
+use lib.Dec.{T}
 use Rattle.cases.proofs.First.{done-not}
 use Rattle.pair.specs.Side.{Side, other}
+use Rattle.pair.proofs.Lane.Outcomes.{harmless}
 use Rattle.pair.proofs.Lane.World.{World}
 use Rattle.pair.specs.World.{Party, with, sized}
 use Rattle.pair.specs.Step.{Call, Open, Send, Read, Close, Take, Step, Reply, Done, did, acted, reached, taking}
@@ -54,7 +56,7 @@ refusal n missing = taking n 0 0 0 missing
 abbrev pub refused : ℕ → ℕ → Party → Done
 refused n missing p = record { reply = refusal n missing; end = p .end; storage = p .storage }
 
-module _ {slots place : ℕ} {x : Scene} {W : World} (m : Mirror slots place x W) (s : Step) (n missing : ℕ) (low : 1 < n) (top : n < 12)
+module _ {slots place : ℕ} {x : Scene} {W : World} (m : Mirror slots place x W) (s : Step) (n missing : ℕ) (low : 0 < n) (mild : T (harmless n))
     (is : did (sized place) (s .call) (x .world (s .side)) ≡ refused n missing (x .world (s .side))) (who : whoseIn (sized place) x s ≡ none) where
   -- the scene after a step that does d
   abbrev scene : Done → Scene
@@ -85,10 +87,8 @@ module _ {slots place : ℕ} {x : Scene} {W : World} (m : Mirror slots place x W
     mirror = mirror-same (λ k. ap (λ (d : Done). scene d .world k) is ∙ same-world k) (λ k. ap (λ (d : Done). scene d .book .notes k) is ∙ same-notes k)
         (ap (λ (d : Done). scene d .book .opened) is ∙ counted-refused (s .call) (d .reply) (x .book .opened) (omega arith)) m;
     whose = who;
-    below = omega (arith, number);
     refused = λ q. omega (arith, number);
-    up = λ q. omega (arith, number);
-    made = λ q. omega (arith, number);
+    mild = subst (λ (a : ℕ). T (harmless a)) (sym number) mild;
     lengths = λ k. ap (λ (p : Party). length (p .storage)) (ap (λ (d : Done). scene d .world k) is ∙ same-world k);
   }
     where
