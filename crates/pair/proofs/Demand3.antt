@@ -15,7 +15,7 @@ use Rattle.send.specs.declared.Sent.{Sent}
 use Rattle.read.specs.declared.Got.{Got}
 use Rattle.close.specs.declared.Closed.{Closed}
 use Rattle.take.specs.declared.Taken.{Taken}
-use Rattle.table.specs.Limits.{base}
+use Rattle.table.specs.Limits.{Limits, base}
 use Rattle.table.specs.Well.{wellMade}
 use Rattle.open.specs.Open.{OpenPromise}
 use Rattle.send.specs.Send.{SendPromise}
@@ -28,7 +28,7 @@ use Rattle.pair.proofs.Lane.Told.{all-read}
 use Rattle.pair.proofs.Lane.World as lanes
 use Rattle.pair.proofs.Lane.Acts.{ends}
 use Rattle.pair.proofs.Lane.Alone.{dawn-sim}
-use Rattle.pair.specs.World.{Party, Sizes, sized}
+use Rattle.pair.specs.World.{Party, Sizes}
 use Rattle.pair.specs.Step.{Open, Send, Read, Close, Take, Step, did, replyTo}
 use Rattle.pair.specs.Seen.{openSeen, sendSeen, readSeen, closeSeen, takeSeen}
 use Rattle.pair.specs.Whose.{Marked}
@@ -49,25 +49,25 @@ use Rattle.pair.proofs.History.FinTaken.{run-ended, fin-held}
 
 -- ---- a run: its history h, and the scene x where it ends; each scene before is where the run that stops there ends
 
-module _ (slots place : ℕ) (storage : Side → List ℕ) (steps : List Step) where
+module _ (slots : ℕ) (lim : Limits) (storage : Side → List ℕ) (steps : List Step) where
   abbrev pub h : List Entry
-  h = history (sized place) (dawn slots storage) steps
+  h = history lim (dawn slots storage) steps
 
   abbrev pub x : Scene
-  x = final (sized place) (dawn slots storage) steps
+  x = final lim (dawn slots storage) steps
 
-  module _ (z : Sizes slots place) where
-    lanes-run : Run slots place (dawn slots storage) lanes.dawn steps
-    lanes-run = run z (dawn-mirror slots place storage) steps
+  module _ (z : Sizes slots lim) where
+    lanes-run : Run slots lim (dawn slots storage) lanes.dawn steps
+    lanes-run = run (dawn-mirror z storage) steps
 
-    mirror : Mirror slots place x (ends lanes.dawn (lanes-run .acts))
+    mirror : Mirror slots lim x (ends lanes.dawn (lanes-run .acts))
     mirror = at-end (lanes-run .along)
 
     -- 1. No step is answered by a fault, by 1 or by 12: both ends stay up and well made.
     pub never-faults : Every Fine h
     never-faults = run-fine (lanes-run .along)
 
-    pub stays-sound : (k : Side) → (x .world k .end .up ≡ true) × (wellMade (sized place) (x .world k .end) ≡ true)
+    pub stays-sound : (k : Side) → (x .world k .end .up ≡ true) × (wellMade lim (x .world k .end) ≡ true)
     stays-sound k = (mirror .at k .up, made-at mirror k)
 
     -- 2. What a session's reads handed over at one side is a first part of what its sends were accepted with at the other, payload by payload.
@@ -81,14 +81,14 @@ module _ (slots place : ℕ) (storage : Side → List ℕ) (steps : List Step) w
     -- 4. Alone on a fresh pair, a session's own steps get the same replies, packets included, but for the SID. The storages there have the same
     -- lengths, and any content.
     pub as-alone : (n : ℕ) (again : Side → List ℕ) → ((k : Side) → length (again k) ≡ length (storage k))
-        → map plainReply (own n h) ≡ map (λ (e : Entry). e .reply) (history (sized place) (dawn slots again) (map aloneStep (own n h)))
+        → map plainReply (own n h) ≡ map (λ (e : Entry). e .reply) (history lim (dawn slots again) (map aloneStep (own n h)))
     as-alone n again long =
-        run-alone z n (lanes-run .along) (dawn slots again) lanes.dawn (record { mirror = dawn-mirror slots place again; sim = dawn-sim n; long = long })
+        run-alone n (lanes-run .along) (dawn slots again) lanes.dawn (record { mirror = dawn-mirror z again; sim = dawn-sim n; long = long })
 
     -- 5. A packet taken with 0 changes the slot of the session that sent it, and no other slot, and no byte outside that slot's four places;
     -- and a storage keeps its length.
-    pub own-slot : Every (λ (e : Entry). IsTake (e .step .call) → e .reply .number ≡ 0 → OwnSlot place e) h
-    own-slot = run-filed z (lanes-run .along)
+    pub own-slot : Every (λ (e : Entry). IsTake (e .step .call) → e .reply .number ≡ 0 → OwnSlot (lim .place) e) h
+    own-slot = run-filed (lanes-run .along)
 
     pub same-lengths : (k : Side) → length (x .world k .storage) ≡ length (storage k)
     same-lengths = run-lengths (lanes-run .along)
@@ -106,11 +106,11 @@ module _ (slots place : ℕ) (storage : Side → List ℕ) (steps : List Step) w
 
     module _ (k : Side) (i n : ℕ) (s : Holds x k i n) (e : slotAt x k i .state ≡ FinReceived) where
       pub told-unread : unread (slotAt x k i) ≡ 0 → (room ack lent : ℕ)
-          → replyTo (sized place) (record { side = k; call = Read (slotAt x k i .sid) room ack lent }) (x .world) .number ≡ 11
+          → replyTo lim (record { side = k; call = Read (slotAt x k i .sid) room ack lent }) (x .world) .number ≡ 11
       told-unread u = let f = held-state mirror k i n s fr e in read-told mirror k i n s f (held-read mirror k i n s fr f refl refl u)
 
       pub told : received k (own n h) ≡ accepted (other k) (own n h) → (room ack lent : ℕ)
-          → replyTo (sized place) (record { side = k; call = Read (slotAt x k i .sid) room ack lent }) (x .world) .number ≡ 11
+          → replyTo lim (record { side = k; call = Read (slotAt x k i .sid) room ack lent }) (x .world) .number ≡ 11
       told u =
           let all = half-received (lanes-run .along) n k ∙ u ∙ sym (half-accepted (lanes-run .along) n (other k)) in
           read-told mirror k i n s (held-state mirror k i n s fr e) (all-read _ (mirror .inv .good n) k all)
@@ -122,8 +122,8 @@ module _ (slots place : ℕ) (storage : Side → List ℕ) (steps : List Step) w
       pub window-opens : minus (slotAt x k (i k) .h) (slotAt x k (i k) .s) ≡ 4
       window-opens = window-open mirror n i s e c u k
 
-      pub window-sends : (payload : List ℕ) (room : ℕ) → length payload ≤ place → headerLength + length payload ≤ room
-          → replyTo (sized place) (record { side = k; call = Send (slotAt x k (i k) .sid) payload room }) (x .world) .number ≡ 0
+      pub window-sends : (payload : List ℕ) (room : ℕ) → length payload ≤ lim .place → headerLength + length payload ≤ room
+          → replyTo lim (record { side = k; call = Send (slotAt x k (i k) .sid) payload room }) (x .world) .number ≡ 0
       window-sends = send-accepted mirror n i s e c u k
 
     -- 9. The book doesn't make packets up: the bytes on their way to a side are those of its marked packets, one after the other.

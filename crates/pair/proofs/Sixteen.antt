@@ -25,8 +25,8 @@ use Rattle.pair.proofs.Demand3 as any
 abbrev pub start : (Side → List ℕ) → Scene
 start storage = record { world = λ k. record { end = startOf (roleOf k); storage = storage k; coming = [] }; book = empty }
 
-sizes : Sizes slotCount payloadLimit
-sizes = record { few = omega arith; fits = omega arith }
+sizes : Sizes slotCount base
+sizes = record { few = omega arith; fits = omega arith; wide = omega arith }
 
 module _ (storage : Side → List ℕ) (steps : List Step) where
   abbrev pub h : List Entry
@@ -36,50 +36,50 @@ module _ (storage : Side → List ℕ) (steps : List Step) where
   x = final base (start storage) steps
 
   pub never-faults : Every Fine h
-  never-faults = any.never-faults slotCount payloadLimit storage steps sizes
+  never-faults = any.never-faults slotCount base storage steps sizes
 
   pub stays-sound : (k : Side) → (x .world k .end .up ≡ true) × (wellMade base (x .world k .end) ≡ true)
-  stays-sound = any.stays-sound slotCount payloadLimit storage steps sizes
+  stays-sound = any.stays-sound slotCount base storage steps sizes
 
   pub first-part : (n : ℕ) (k : Side) → FirstPart (received k (own n h)) (accepted (other k) (own n h))
-  first-part = any.first-part slotCount payloadLimit storage steps sizes
+  first-part = any.first-part slotCount base storage steps sizes
 
   pub whole-when-told : (n : ℕ) (k : Side) → Some (Told k) (own n h) → received k (own n h) ≡ accepted (other k) (own n h)
-  whole-when-told = any.whole-when-told slotCount payloadLimit storage steps sizes
+  whole-when-told = any.whole-when-told slotCount base storage steps sizes
 
   pub as-alone : (n : ℕ) (again : Side → List ℕ) → ((k : Side) → length (again k) ≡ length (storage k))
       → map plainReply (own n h) ≡ map (λ (e : Entry). e .reply) (history base (start again) (map aloneStep (own n h)))
-  as-alone = any.as-alone slotCount payloadLimit storage steps sizes
+  as-alone = any.as-alone slotCount base storage steps sizes
 
   pub own-slot : Every (λ (e : Entry). IsTake (e .step .call) → e .reply .number ≡ 0 → OwnSlot payloadLimit e) h
-  own-slot = any.own-slot slotCount payloadLimit storage steps sizes
+  own-slot = any.own-slot slotCount base storage steps sizes
 
   pub same-lengths : (k : Side) → length (x .world k .storage) ≡ length (storage k)
-  same-lengths = any.same-lengths slotCount payloadLimit storage steps sizes
+  same-lengths = any.same-lengths slotCount base storage steps sizes
 
   pub same-number : (k : Side) (i n : ℕ) → Holds x k i n → Some (OpenedAs n (slotAt x k i .sid)) h
-  same-number = any.same-number slotCount payloadLimit storage steps sizes
+  same-number = any.same-number slotCount base storage steps sizes
 
   pub fin-received : (k : Side) (i n : ℕ) → Some (FinTaken k n) h → Holds x k i n → slotAt x k i .state ≡ FinReceived
-  fin-received = any.fin-received slotCount payloadLimit storage steps sizes
+  fin-received = any.fin-received slotCount base storage steps sizes
 
   module _ (k : Side) (i n : ℕ) (s : Holds x k i n) (e : slotAt x k i .state ≡ FinReceived) where
     pub told-unread : unread (slotAt x k i) ≡ 0 → (room ack lent : ℕ)
         → replyTo base (record { side = k; call = Read (slotAt x k i .sid) room ack lent }) (x .world) .number ≡ 11
-    told-unread = any.told-unread slotCount payloadLimit storage steps sizes k i n s e
+    told-unread = any.told-unread slotCount base storage steps sizes k i n s e
 
     pub told : received k (own n h) ≡ accepted (other k) (own n h) → (room ack lent : ℕ)
         → replyTo base (record { side = k; call = Read (slotAt x k i .sid) room ack lent }) (x .world) .number ≡ 11
-    told = any.told slotCount payloadLimit storage steps sizes k i n s e
+    told = any.told slotCount base storage steps sizes k i n s e
 
   module _ (n : ℕ) (i : Side → ℕ) (s : (k : Side) → Holds x k (i k) n) (e : (k : Side) → slotAt x k (i k) .state ≡ Established)
       (c : (k : Side) → x .world k .coming ≡ []) (u : (k : Side) → unread (slotAt x k (i k)) ≡ 0) (k : Side) where
     pub window-opens : minus (slotAt x k (i k) .h) (slotAt x k (i k) .s) ≡ 4
-    window-opens = any.window-opens slotCount payloadLimit storage steps sizes n i s e c u k
+    window-opens = any.window-opens slotCount base storage steps sizes n i s e c u k
 
     pub window-sends : (payload : List ℕ) (room : ℕ) → length payload ≤ payloadLimit → headerLength + length payload ≤ room
         → replyTo base (record { side = k; call = Send (slotAt x k (i k) .sid) payload room }) (x .world) .number ≡ 0
-    window-sends = any.window-sends slotCount payloadLimit storage steps sizes n i s e c u k
+    window-sends = any.window-sends slotCount base storage steps sizes n i s e c u k
 
   pub marks : (k : Side) → x .world k .coming ≡ flatMap (λ (m : Marked). m .bytes) (x .book .notes k .coming)
-  marks = any.marks slotCount payloadLimit storage steps sizes
+  marks = any.marks slotCount base storage steps sizes

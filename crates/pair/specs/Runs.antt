@@ -6,12 +6,13 @@ use mathlib.Core.List.{List, [], _∷_, _++_, map}
 use mathlib.Core.Option.{Option, none, some}
 use lib.ListN.{replicate}
 use Rattle.session.specs.declared.record.Session.{Session}
-use Rattle.session.specs.Record.{statedOf}
+use Rattle.session.specs.Record.{window, statedOf}
 use Rattle.table.specs.declared.end.Role.{Role}
 use Rattle.table.specs.declared.end.Role.the-variants.{Client, Server}
 use Rattle.table.specs.End.{startedOf, putOf}
+use Rattle.table.specs.Limits.{Limits}
 use Rattle.pair.specs.Side.{Side, client, server}
-use Rattle.pair.specs.World.{Party, sized}
+use Rattle.pair.specs.World.{Party}
 use Rattle.pair.specs.Step.{Call, Open, Send, Read, Close, Take, Step}
 use Rattle.pair.specs.History.{Scene, Entry, dawn, history}
 use Rattle.pair.specs.Claims.{own, received}
@@ -39,6 +40,10 @@ sessionsIn h = map (λ (e : Entry). e .whose) h
 
 abbrev pub is : Side → Call → ℕ → Option ℕ → Line
 is k c n who = record { step = record { side = k; call = c }; number = n; whose = who }
+
+-- our window, and places of that size
+abbrev pub sized : ℕ → Limits
+sized place = record { window = window; place = place }
 
 -- two slots with places of four bytes, and storages of 32
 abbrev pub two : Scene

@@ -1,5 +1,5 @@
 -- The pair in demand 3 (document 01): one client and one server, each started once at the beginning, joined by two faithful channels.
--- The number of slots and the size of a place are arguments; the base has 16 and 512.
+-- The number of slots and the limits are arguments; the base has 16 slots, places of 512 bytes and a highest window of 4.
 use Prim.Native.Nat.{ℕ, _+_, _^_, _≤_, _<_}
 use mathlib.Core.List.{List, []}
 use Rattle.wire.specs.Packet.{headerLength}
@@ -31,14 +31,11 @@ with client a w server = w server
 with server a w client = w client
 with server a w server = a
 
--- SIDs have two bytes, and LENGTH has four
-pub record Sizes (slots place : ℕ) : Type 0 where
+-- SIDs have two bytes, LENGTH has four, and our window is within the highest that a peer may grant
+pub record Sizes (slots : ℕ) (lim : Limits) : Type 0 where
   pub few : slots ≤ 2 ^ 16
-  pub fits : headerLength + place < 2 ^ 32
-
--- our window, and places of that size
-abbrev pub sized : ℕ → Limits
-sized place = record { window = window; place = place }
+  pub fits : headerLength + lim .place < 2 ^ 32
+  pub wide : window ≤ lim .window
 
 -- both ends fresh, storages of any length and content, both channels empty
 abbrev pub fresh : ℕ → (Side → List ℕ) → World

@@ -14,6 +14,7 @@ use Rattle.wire.specs.declared.kind.Kind.the-variants.{Syn}
 use Rattle.wire.specs.Packet.{headerLength, bytes, headerBytes, headerOf, packetBytes, flagsValue}
 use Rattle.session.specs.Record.{window}
 use Rattle.table.specs.Slots.{smallestSid}
+use Rattle.table.specs.Limits.{Limits}
 use Rattle.table.proofs.Slots.{smallest-here}
 use Rattle.table.proofs.Smallest.{smallest-new}
 use Rattle.pair.specs.Side.{Side, client, server}
@@ -25,7 +26,7 @@ use Rattle.pair.proofs.Lane.World.{syn, World}
 use Rattle.pair.proofs.Lane.Acts.{Act, dial, greet, turn, act, owner, Fit, again}
 use Rattle.pair.proofs.Lane.Heads.{syn-known, packet-toward, packet-held}
 use Rattle.pair.proofs.Lane.Alone.{Sim, sim-past, sim-act, alone-syn, alone-packet, Follows}
-use Rattle.pair.specs.World.{Party, Sizes, sized}
+use Rattle.pair.specs.World.{Party}
 use Rattle.pair.specs.Step.{Reply, Open, Read, Step, emitting}
 use Rattle.pair.specs.History.{Scene, Entry, entry, history}
 use Rattle.pair.specs.Claims.{numberless, own, aloneStep, plainReply}
@@ -84,7 +85,7 @@ turn-plain sid deliver o l = head-plain sid l
 
 -- ---- what a step performs fits, and the two pairs side by side
 
-performs-fits : {slots place : ℕ} {x : Scene} {W : World} {s : Step} {a : Act} → Mirror slots place x W → Performs slots place x W s a → Fit slots W a
+performs-fits : {slots : ℕ} {lim : Limits} {x : Scene} {W : World} {s : Step} {a : Act} → Mirror slots lim x W → Performs slots lim x W s a → Fit slots W a
 performs-fits {x = x} m (opening h r) = (r, none-held m client (smallestSid (x .world client .end .slots)) (smallest-new (x .world client .end .slots)))
 performs-fits m (greeting e g) = record { lane = _; tail = _; eq = e }
 performs-fits m (taking e g) = (packet-held (m .inv) _ _ _ _ e, record { packet = _; tail = _; eq = e })
@@ -93,36 +94,37 @@ performs-fits m (reading i) = (i .listed, tt)
 performs-fits m (closing i) = (i .listed, tt)
 
 -- y with A is the session n of x with W, alone
-pub record Beside (slots place n : ℕ) (x : Scene) (W : World) (y : Scene) (A : World) : Type 0 where
-  pub mirror : Mirror slots place y A
+pub record Beside (slots : ℕ) (lim : Limits) (n : ℕ) (x : Scene) (W : World) (y : Scene) (A : World) : Type 0 where
+  pub mirror : Mirror slots lim y A
   pub sim : Sim slots n W A
   pub long : Lengths x y
 
 -- ---- one step of the session
 
 -- given just its packet, of the same length
-alone-given : {slots place n given lent : ℕ} (p q : Party) (bytes bytes' : List ℕ) → length (q .storage) ≡ length (p .storage) → length bytes' ≡ length bytes
+alone-given : {slots : ℕ} {lim : Limits} {n given lent : ℕ} (p q : Party) (bytes bytes' : List ℕ) → length (q .storage) ≡ length (p .storage)
+    → length bytes' ≡ length bytes
     → n ≡ length bytes
-    → Given slots place p bytes given lent → Given slots place q bytes' n lent
-alone-given {slots} {place} {lent = lent} p q bytes bytes' long e f g = record { whole = omega arith; long = ap (tooShort slots place lent) long ∙ g .long }
+    → Given slots lim p bytes given lent → Given slots lim q bytes' n lent
+alone-given {slots} {lim} {lent = lent} p q bytes bytes' long e f g = record { whole = omega arith; long = ap (tooShort slots lim lent) long ∙ g .long }
 
 turn-alone : {slots : ℕ} {W A : World} (k : Side) (n : ℕ) (c : lane.Call) → Sim slots n W A → plain (actReply W (turn k n c)) ≡ actReply A (turn k 0 c)
 turn-alone {W = W} k n c s =
     turn-plain (W .sid n) c (moved k c (W .lanes n) .out) (toward k (W .lanes n))
     ∙ ap₂ (λ (sid : ℕ) (L : Lane). turnReply sid c (moved k c L .out) (toward k L)) (sym (s .sid)) (s .lane)
 
-module _ {slots place : ℕ} {x : Scene} {W : World} {y : Scene} {A : World} where
-  follows : {s : Step} {a : Act} → Mirror slots place x W → Performs slots place x W s a → Beside slots place (owner W a) x W y A
+module _ {slots : ℕ} {lim : Limits} {x : Scene} {W : World} {y : Scene} {A : World} where
+  follows : {s : Step} {a : Act} → Mirror slots lim x W → Performs slots lim x W s a → Beside slots lim (owner W a) x W y A
       → Follows slots (owner W a) W A a
   follows {a = a} m p b = sim-act (m .inv) (b .sim) a (performs-fits m p) refl
 
   -- alone it performs the same act
-  alone-performs : {s : Step} {a : Act} → Mirror slots place x W → (p : Performs slots place x W s a) → Acted slots place x W s a
-      → Beside slots place (owner W a) x W y A → Follows slots (owner W a) W A a
-      → Performs slots place y A (aloneStep (entry (sized place) x s)) (again a)
+  alone-performs : {s : Step} {a : Act} → Mirror slots lim x W → (p : Performs slots lim x W s a) → Acted slots lim x W s a
+      → Beside slots lim (owner W a) x W y A → Follows slots (owner W a) W A a
+      → Performs slots lim y A (aloneStep (entry lim x s)) (again a)
   alone-performs m (opening {room} h r) d b f =
       let xs = y .world client .end .slots in
-      subst (λ (sid : ℕ). Performs slots place y A (record { side = client; call = Open room }) (dial sid))
+      subst (λ (sid : ℕ). Performs slots lim y A (record { side = client; call = Open room }) (dial sid))
       (smallest-here (length xs) 0 xs (none-listed (b .mirror) client 0 (f .fit .1)))
       (opening h (f .fit .0))
   alone-performs m (greeting {n = n} e g) d b f =
@@ -136,13 +138,13 @@ module _ {slots place : ℕ} {x : Scene} {W : World} {y : Scene} {A : World} whe
       (packet-size (A .sid 0) p ∙ sym (packet-size (W .sid n) p)) used g)
   alone-performs m (sending i) d b f = sending (record { listed = f .fit .0; name = b .sim .sid })
   alone-performs m (reading {k} {room = room} {ack = ack} {lent = lent} i) d b f =
-      subst (λ (all : ℕ). Performs slots place y A (record { side = k; call = Read 0 room ack lent }) (turn k 0 (get (readRoom slots place room ack lent all))))
+      subst (λ (all : ℕ). Performs slots lim y A (record { side = k; call = Read 0 room ack lent }) (turn k 0 (get (readRoom slots lim room ack lent all))))
       (b .long k)
       (reading (record { listed = f .fit .0; name = b .sim .sid }))
   alone-performs m (closing i) d b f = closing (record { listed = f .fit .0; name = b .sim .sid })
 
   -- and gets the same reply but for the SID
-  alone-reply : (a : Act) → Mirror slots place x W → Fit slots W a → Beside slots place (owner W a) x W y A → plain (actReply W a) ≡ actReply A (again a)
+  alone-reply : (a : Act) → Mirror slots lim x W → Fit slots W a → Beside slots lim (owner W a) x W y A → plain (actReply W a) ≡ actReply A (again a)
   alone-reply (dial sid) m f b = ap (emitting 0 0 headerLength) (syn-numberless sid)
   alone-reply greet m f b =
       let e : W .chan server ≡ syn (W .known) ∷ f .tail = f .eq ∙ ap (λ (n : ℕ). syn n ∷ f .tail) (syn-known (m .inv) (f .lane) (f .tail) (f .eq)) in
@@ -152,40 +154,40 @@ module _ {slots place : ℕ} {x : Scene} {W : World} {y : Scene} {A : World} whe
 
 -- ---- all of them
 
-module _ {slots place : ℕ} (z : Sizes slots place) (n : ℕ) where
-  -- the same replies, alone from y
-  abbrev Same : Scene → List Entry → Type 0
-  Same y h = map plainReply h ≡ map (λ (e : Entry). e .reply) (history (sized place) y (map aloneStep h))
+-- the same replies, alone from y
+abbrev Same : Limits → Scene → List Entry → Type 0
+Same lim y h = map plainReply h ≡ map (λ (e : Entry). e .reply) (history lim y (map aloneStep h))
 
-  module _ {x : Scene} {W : World} {s : Step} (h : List Entry) (y : Scene) (A : World) (a : Act) (m : Mirror slots place x W) (p : Performs slots place x W s a)
-      (d : Acted slots place x W s a) (on : (v : Scene) (B : World) → Beside slots place n (entry (sized place) x s .after) (act a W) v B → Same v h) where
-    mine : Beside slots place (owner W a) x W y A → owner W a ≡ n → Same y (entry (sized place) x s ∷ h)
+module _ {slots : ℕ} {lim : Limits} (n : ℕ) where
+  module _ {x : Scene} {W : World} {s : Step} (h : List Entry) (y : Scene) (A : World) (a : Act) (m : Mirror slots lim x W) (p : Performs slots lim x W s a)
+      (d : Acted slots lim x W s a) (on : (v : Scene) (B : World) → Beside slots lim n (entry lim x s .after) (act a W) v B → Same lim v h) where
+    mine : Beside slots lim (owner W a) x W y A → owner W a ≡ n → Same lim y (entry lim x s ∷ h)
     unfolding history
     mine b q =
-        let e = aloneStep (entry (sized place) x s) in
-        let c = performs-acts z (b .mirror) (alone-performs m p d b (follows m p b)) in
+        let e = aloneStep (entry lim x s) in
+        let c = performs-acts (b .mirror) (alone-performs m p d b (follows m p b)) in
         ap₂ _∷_ (ap plain (d .reply) ∙ alone-reply a m (performs-fits m p) b ∙ sym (c .reply))
-        (on (entry (sized place) y e .after) (act (again a) A) (record {
+        (on (entry lim y e .after) (act (again a) A) (record {
           mirror = c .mirror;
           sim = subst (λ (j : ℕ). Sim slots j (act a W) (act (again a) A)) q (follows m p b .sim);
           long = λ k. c .lengths k ∙ b .long k ∙ sym (d .lengths k);
         }))
 
-    another : Beside slots place n x W y A → owner W a ≢ n → Same y h
+    another : Beside slots lim n x W y A → owner W a ≢ n → Same lim y h
     another b q = on y A (record { mirror = b .mirror; sim = sim-past (b .sim) a q; long = λ k. b .long k ∙ sym (d .lengths k) })
 
-    either : Beside slots place n x W y A → Eq? (owner W a) n (eqb (owner W a) n) → Same y (if (eqb (owner W a) n) (entry (sized place) x s ∷ h) h)
-    either b (same q e) = rw e (mine (subst (λ (j : ℕ). Beside slots place j x W y A) (sym q) b) q)
+    either : Beside slots lim n x W y A → Eq? (owner W a) n (eqb (owner W a) n) → Same lim y (if (eqb (owner W a) n) (entry lim x s ∷ h) h)
+    either b (same q e) = rw e (mine (subst (λ (j : ℕ). Beside slots lim j x W y A) (sym q) b) q)
     either b (differ q e) = rw e (another b q)
 
   -- THEOREM
-  pub run-alone : {x : Scene} {W : World} {ss : List Step} {t : List Act} → Along slots place x W ss t → (y : Scene) (A : World) → Beside slots place n x W y A
-      → Same y (own n (history (sized place) x ss))
+  pub run-alone : {x : Scene} {W : World} {ss : List Step} {t : List Act} → Along slots lim x W ss t → (y : Scene) (A : World) → Beside slots lim n x W y A
+      → Same lim y (own n (history lim x ss))
   unfolding history own
   run-alone (over m) y A b = refl
   run-alone {x} {W} {ss = s ∷ ss} (rests m r l) y A b =
-      subst (Same y) (sym (own-none n (entry (sized place) x s) (history (sized place) (entry (sized place) x s .after) ss) (r .whose)))
+      subst (Same lim y) (sym (own-none n (entry lim x s) (history lim (entry lim x s .after) ss) (r .whose)))
       (run-alone l y A (record { mirror = b .mirror; sim = b .sim; long = λ k. b .long k ∙ sym (r .lengths k) }))
   run-alone {x} {W} {ss = s ∷ ss} {t = a ∷ t} (acts m p d l) y A b =
-      subst (Same y) (sym (own-some n (owner W a) (entry (sized place) x s) (history (sized place) (entry (sized place) x s .after) ss) (d .whose)))
-      (either (own n (history (sized place) (entry (sized place) x s .after) ss)) y A a m p d (run-alone l) b (eq? (owner W a) n))
+      subst (Same lim y) (sym (own-some n (owner W a) (entry lim x s) (history lim (entry lim x s .after) ss) (d .whose)))
+      (either (own n (history lim (entry lim x s .after) ss)) y A a m p d (run-alone l) b (eq? (owner W a) n))

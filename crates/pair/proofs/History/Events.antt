@@ -11,6 +11,7 @@ use mathlib.Core.Option.{none, some}
 use lib.Dec.{eqb, leb→le}
 use Rattle.cases.specs.Cases.{if, done}
 use Rattle.cases.proofs.First.{done-not}
+use Rattle.table.specs.Limits.{Limits}
 use Rattle.pair.specs.Side.{Side, client, server, other}
 use Rattle.pair.proofs.Lane.Half.{Bytes, Out}
 use Rattle.pair.proofs.Lane.Outcomes.{send-all, read-all, close-all}
@@ -23,7 +24,6 @@ use Rattle.pair.proofs.Lane.World.{World, dawn}
 use Rattle.pair.proofs.Lane.Acts.{Act, dial, greet, turn, act, owner, eventsOf, ends, stepsOf}
 use Rattle.pair.proofs.Lane.Heads.{packet-toward}
 use Rattle.pair.proofs.Lane.Apart.{isolated, isolated-lane, events-first-part, events-told-whole}
-use Rattle.pair.specs.World.{sized}
 use Rattle.pair.specs.Step.{Step, Reply}
 use Rattle.pair.specs.History.{Scene, Entry, entry, history}
 use Rattle.pair.specs.Claims.{own, only, sent, got, accepted, received, Some, Told, FirstPart}
@@ -73,11 +73,11 @@ took-is : (n : ℕ) (p : Bytes) → done n (p ∷ []) [] ≡ tookIf n p
 took-is zero p = refl
 took-is (suc n) p = done-not (suc n) (p ∷ []) [] (omega arith)
 
-module _ {slots place : ℕ} {x : Scene} {W : World} where
+module _ {slots : ℕ} {lim : Limits} {x : Scene} {W : World} where
   -- what the lane's step hands over
-  event-of : (s : Step) (k : Side) (n : ℕ) (c : lane.Call) → Mirror slots place x W → Performs slots place x W s (turn k n c)
-      → Acted slots place x W s (turn k n c)
-      → Shows (entry (sized place) x s) (event (W .lanes n) (record { side = k; call = c }))
+  event-of : (s : Step) (k : Side) (n : ℕ) (c : lane.Call) → Mirror slots lim x W → Performs slots lim x W s (turn k n c)
+      → Acted slots lim x W s (turn k n c)
+      → Shows (entry lim x s) (event (W .lanes n) (record { side = k; call = c }))
   event-of s k n c m (taking {p = p} {l = l} e g) d = record {
     side = refl;
     sent = refl;
@@ -107,10 +107,10 @@ module _ {slots place : ℕ} {x : Scene} {W : World} where
   }
 
   -- an open, or the take of a SYN
-  quiet-dial : (s : Step) (y : ℕ) → Performs slots place x W s (dial y) → Quiet (entry (sized place) x s)
+  quiet-dial : (s : Step) (y : ℕ) → Performs slots lim x W s (dial y) → Quiet (entry lim x s)
   quiet-dial s y (opening h r) = record { sent = refl; got = refl; told = λ k t. t .read }
 
-  quiet-greet : (s : Step) → Performs slots place x W s greet → Quiet (entry (sized place) x s)
+  quiet-greet : (s : Step) → Performs slots lim x W s greet → Quiet (entry lim x s)
   quiet-greet s (greeting e g) = record { sent = refl; got = refl; told = λ k t. t .read }
 
 -- ---- all of them
@@ -154,48 +154,48 @@ both-show : (b : Bool) {e : Entry} {v : Event} {h : List Entry} {t : List Event}
 both-show true s a = agrees-show s a
 both-show false s a = a
 
-module _ {slots place : ℕ} (n : ℕ) where
-  act-agrees : {x : Scene} {W : World} {s : Step} {h : List Entry} (t : List Act) (a : Act) → Mirror slots place x W → Performs slots place x W s a
-      → Acted slots place x W s a
-      → Agrees h (eventsOf n (act a W) t) → Agrees (if (eqb (owner W a) n) (entry (sized place) x s ∷ h) h) (eventsOf n W (a ∷ t))
+module _ {slots : ℕ} {lim : Limits} (n : ℕ) where
+  act-agrees : {x : Scene} {W : World} {s : Step} {h : List Entry} (t : List Act) (a : Act) → Mirror slots lim x W → Performs slots lim x W s a
+      → Acted slots lim x W s a
+      → Agrees h (eventsOf n (act a W) t) → Agrees (if (eqb (owner W a) n) (entry lim x s ∷ h) h) (eventsOf n W (a ∷ t))
   act-agrees {W = W} {s = s} t (dial y) m p d g = either-quiet (eqb (W .born) n) (quiet-dial s y p) g
   act-agrees {W = W} {s = s} t greet m p d g = either-quiet (eqb (W .known) n) (quiet-greet s p) g
   act-agrees {s = s} t (turn k j c) m p d g = both-show (eqb j n) (event-of s k j c m p d) g
 
   -- THEOREM: a session's own entries agree with its lane's events
-  run-agrees : {x : Scene} {W : World} {ss : List Step} {t : List Act} → Along slots place x W ss t
-      → Agrees (own n (history (sized place) x ss)) (eventsOf n W t)
+  run-agrees : {x : Scene} {W : World} {ss : List Step} {t : List Act} → Along slots lim x W ss t
+      → Agrees (own n (history lim x ss)) (eventsOf n W t)
   unfolding history own
   run-agrees (over m) = agrees-none
   run-agrees {x} {W} {ss = s ∷ ss} {t} (rests m r l) =
       subst (λ (o : List Entry). Agrees o (eventsOf n W t))
-      (sym (own-none n (entry (sized place) x s) (history (sized place) (entry (sized place) x s .after) ss) (r .whose))) (run-agrees l)
+      (sym (own-none n (entry lim x s) (history lim (entry lim x s .after) ss) (r .whose))) (run-agrees l)
   run-agrees {x} {W} {ss = s ∷ ss} {t = a ∷ t} (acts m p d l) =
       subst (λ (o : List Entry). Agrees o (eventsOf n W (a ∷ t)))
-      (sym (own-some n (owner W a) (entry (sized place) x s) (history (sized place) (entry (sized place) x s .after) ss) (d .whose)))
+      (sym (own-some n (owner W a) (entry lim x s) (history lim (entry lim x s .after) ss) (d .whose)))
       (act-agrees t a m p d (run-agrees l))
 
 -- ---- from the fresh pair on
 
-module _ {slots place : ℕ} {x : Scene} {ss : List Step} {t : List Act} (l : Along slots place x dawn ss t) (n : ℕ) (k : Side) where
-  pub run-first-part : FirstPart (received k (own n (history (sized place) x ss))) (accepted (other k) (own n (history (sized place) x ss)))
+module _ {slots : ℕ} {lim : Limits} {x : Scene} {ss : List Step} {t : List Act} (l : Along slots lim x dawn ss t) (n : ℕ) (k : Side) where
+  pub run-first-part : FirstPart (received k (own n (history lim x ss))) (accepted (other k) (own n (history lim x ss)))
   run-first-part =
       let a = run-agrees n l in
       let f = events-first-part n t k in
       record { more = f .rest; whole = a .accepted (other k) ∙ f .eq ∙ ap (λ (r : List Bytes). r ++ f .rest) (sym (a .received k)) }
 
-  pub run-told-whole : Some (Told k) (own n (history (sized place) x ss))
-      → received k (own n (history (sized place) x ss)) ≡ accepted (other k) (own n (history (sized place) x ss))
+  pub run-told-whole : Some (Told k) (own n (history lim x ss))
+      → received k (own n (history lim x ss)) ≡ accepted (other k) (own n (history lim x ss))
   run-told-whole s = let a = run-agrees n l in a .received k ∙ events-told-whole n t k (a .told k s) ∙ sym (a .accepted (other k))
 
-  pub half-received : half k (ends dawn t .lanes n) .got ≡ received k (own n (history (sized place) x ss))
+  pub half-received : half k (ends dawn t .lanes n) .got ≡ received k (own n (history lim x ss))
   half-received =
       ap (λ (L : Lane). half k L .got) (isolated-lane n t dawn)
       ∙ reads-is k (stepsOf n t)
       ∙ ap (reads k) (sym (isolated n t dawn))
       ∙ sym (run-agrees n l .received k)
 
-  pub half-accepted : half k (ends dawn t .lanes n) .acc ≡ accepted k (own n (history (sized place) x ss))
+  pub half-accepted : half k (ends dawn t .lanes n) .acc ≡ accepted k (own n (history lim x ss))
   half-accepted =
       ap (λ (L : Lane). half k L .acc) (isolated-lane n t dawn)
       ∙ accepted-is k (stepsOf n t)

@@ -9,6 +9,7 @@ use lib.Dec.{T}
 use Rattle.wire.specs.declared.kind.Kind.the-variants.{Fin}
 use Rattle.wire.specs.Packet.{flagsValue}
 use Rattle.session.specs.declared.record.State.the-variants.{FinReceived}
+use Rattle.table.specs.Limits.{Limits}
 use Rattle.pair.specs.Side.{Side}
 use Rattle.pair.proofs.Lane.Half.{Packet, dat, ack, fin}
 use Rattle.pair.proofs.Lane.Lane.{deliver, stOf}
@@ -18,7 +19,6 @@ use Rattle.pair.proofs.Lane.Acts.{Act, act, ends, stepsOf}
 use Rattle.pair.proofs.Lane.Heads.{packet-toward}
 use Rattle.pair.proofs.Lane.Apart.{isolated-lane}
 use Rattle.pair.proofs.Lane.Ended.{final-ended, fin-ends, live-ended}
-use Rattle.pair.specs.World.{sized}
 use Rattle.pair.specs.Step.{Step, Reply}
 use Rattle.pair.specs.History.{Scene, entry, history}
 use Rattle.pair.specs.Claims.{Some, FinTaken, slotAt, Holds}
@@ -37,9 +37,9 @@ fin-only i k n (dat q v b) l e f = absurd (omega arith)
 fin-only i k n (ack q v) l e f = absurd (omega arith)
 fin-only i k n (fin q v) l e f = fin-ends i k n q v l e
 
-module _ {slots place : ℕ} (k : Side) (n : ℕ) where
-  taken-ended : {x : Scene} {W : World} {s : Step} {a : Act} → Mirror slots place x W → Performs slots place x W s a → Acted slots place x W s a
-      → FinTaken k n (entry (sized place) x s) → T (ended (stOf k (act a W .lanes n)))
+module _ {slots : ℕ} {lim : Limits} (k : Side) (n : ℕ) where
+  taken-ended : {x : Scene} {W : World} {s : Step} {a : Act} → Mirror slots lim x W → Performs slots lim x W s a → Acted slots lim x W s a
+      → FinTaken k n (entry lim x s) → T (ended (stOf k (act a W .lanes n)))
   taken-ended m (opening h r) d f = absurd (f .take)
   taken-ended m (sending i) d f = absurd (f .take)
   taken-ended m (reading i) d f = absurd (f .take)
@@ -52,7 +52,7 @@ module _ {slots place : ℕ} (k : Side) (n : ℕ) where
       (subst (λ (y : ℕ). T (ended (stOf j (own W j i deliver .lanes y)))) mine (fin-only (m .inv) j i p l e (sym kind ∙ f .kind)))
 
   -- THEOREM: after that, at the end of the run
-  pub run-ended : {x : Scene} {W : World} {ss : List Step} {t : List Act} → Along slots place x W ss t → Some (FinTaken k n) (history (sized place) x ss)
+  pub run-ended : {x : Scene} {W : World} {ss : List Step} {t : List Act} → Along slots lim x W ss t → Some (FinTaken k n) (history lim x ss)
       → T (ended (stOf k (ends W t .lanes n)))
   unfolding history
   run-ended (over m) u = absurd u
@@ -62,7 +62,8 @@ module _ {slots place : ℕ} (k : Side) (n : ℕ) where
       rw (isolated-lane n t (act a W)) (final-ended k (act a W .lanes n) (stepsOf n t) (taken-ended m p d u))
   run-ended (acts m p d l) (inr u) = run-ended l u
 
-pub fin-held : {slots place : ℕ} {x : Scene} {W : World} → Mirror slots place x W → (k : Side) (i n : ℕ) → T (ended (stOf k (W .lanes n))) → Holds x k i n
+pub fin-held : {slots : ℕ} {lim : Limits} {x : Scene} {W : World} → Mirror slots lim x W → (k : Side) (i n : ℕ) → T (ended (stOf k (W .lanes n)))
+    → Holds x k i n
     → slotAt x k i .state ≡ FinReceived
 fin-held {W = W} m k i n e h =
     let f = held m k i n h in

@@ -11,13 +11,13 @@ use Rattle.wire.specs.Packet.{headerLength}
 use Rattle.session.specs.declared.record.State.the-variants.{Established}
 use Rattle.session.specs.Counter.{minus}
 use Rattle.session.specs.Record.{finSent, inUse, unread}
+use Rattle.table.specs.Limits.{Limits}
 use Rattle.pair.specs.Side.{Side}
 use Rattle.pair.proofs.Lane.Half.{St, est, fr, sOf, send}
 use Rattle.pair.proofs.Lane.Lane.{stOf, half}
 use Rattle.pair.proofs.Lane.Story.{window-opens}
 use Rattle.pair.proofs.Lane.Told.{told-eleven}
 use Rattle.pair.proofs.Lane.World.{pick, World}
-use Rattle.pair.specs.World.{sized}
 use Rattle.pair.specs.Step.{Send, Read, Reply, replyTo}
 use Rattle.pair.specs.History.{Scene}
 use Rattle.pair.specs.Claims.{slotAt, Holds}
@@ -33,11 +33,11 @@ none-left : {A : Type 0} (l : List A) → length l ≡ 0 → l ≡ []
 none-left [] e = refl
 none-left (a ∷ l) e = absurd (omega arith)
 
-module _ {slots place : ℕ} {x : Scene} {W : World} (m : Mirror slots place x W) where
+module _ {slots : ℕ} {lim : Limits} {x : Scene} {W : World} (m : Mirror slots lim x W) where
   module _ (k : Side) (i n : ℕ) (h : Holds x k i n) where
     -- the slot stands for its lane
-    pub held : Filled place W k (x .world k) i n
-    held = subst (Filled place W k (x .world k) i) (h .owner) (m .at k .filled i (omega (arith, h .slot, m .at k .many)) (h .used))
+    pub held : Filled lim W k (x .world k) i n
+    held = subst (Filled lim W k (x .world k) i) (h .owner) (m .at k .filled i (omega (arith, h .slot, m .at k .many)) (h .used))
 
     pub held-state : (s : St) → slotAt x k i .state ≡ stateOf s → stOf k (W .lanes n) ≡ s
     held-state s e = state-one (stOf k (W .lanes n)) s (sym (held .stands .state) ∙ e)
@@ -50,10 +50,10 @@ module _ {slots place : ℕ} {x : Scene} {W : World} (m : Mirror slots place x W
         (sym (unread-counts (held .stands) (ranges-of m k n) (ap (λ (t : St). finSent (stateOf t)) e ∙ f) (ap (λ (t : St). inUse (stateOf t)) e ∙ u)) ∙ z)
 
     pub read-told : stOf k (W .lanes n) ≡ fr → half k (W .lanes n) .unread ≡ [] → (room ack lent : ℕ)
-        → replyTo (sized place) (record { side = k; call = Read (slotAt x k i .sid) room ack lent }) (x .world) .number ≡ 11
+        → replyTo lim (record { side = k; call = Read (slotAt x k i .sid) room ack lent }) (x .world) .number ≡ 11
     read-told e u room ack lent =
         ap (λ (r : Reply). r .number) (acted-reading m (record { listed = held .listed; name = sym (held .stands .sid) }) room ack lent .reply)
-        ∙ told-eleven (W .lanes n) k (readRoom slots place room ack lent (length (x .world k .storage))) e u
+        ∙ told-eleven (W .lanes n) k (readRoom slots lim room ack lent (length (x .world k .storage))) e u
 
   -- both halves ESTABLISHED, nothing on its way, all read
   module _ (n : ℕ) (i : Side → ℕ) (h : (k : Side) → Holds x k (i k) n) (e : (k : Side) → slotAt x k (i k) .state ≡ Established)
@@ -69,11 +69,11 @@ module _ {slots place : ℕ} {x : Scene} {W : World} (m : Mirror slots place x W
     pub window-open : minus (slotAt x k (i k) .h) (slotAt x k (i k) .s) ≡ 4
     window-open = whole-window (held k (i k) n (h k) .stands) (ranges-of m k n) opens
 
-    pub send-accepted : (payload : List ℕ) (room : ℕ) → length payload ≤ place → headerLength + length payload ≤ room
-        → replyTo (sized place) (record { side = k; call = Send (slotAt x k (i k) .sid) payload room }) (x .world) .number ≡ 0
+    pub send-accepted : (payload : List ℕ) (room : ℕ) → length payload ≤ lim .place → headerLength + length payload ≤ room
+        → replyTo lim (record { side = k; call = Send (slotAt x k (i k) .sid) payload room }) (x .world) .number ≡ 0
     send-accepted payload room f g =
         let a = held k (i k) n (h k) in
         let B = half k (W .lanes n) in
         ap (λ (r : Reply). r .number) (acted-sending m (record { listed = a .listed; name = sym (a .stands .sid) }) payload room .reply)
-        ∙ ap (λ (s : St). send payload (sendRoom place payload room) s B .ans) (both k)
-        ∙ rw (le-ltb place (length payload) f, lt-leb (B .high) (sOf B) (omega (arith, opens)), le-ltb room (headerLength + length payload) g)
+        ∙ ap (λ (s : St). send payload (sendRoom lim payload room) s B .ans) (both k)
+        ∙ rw (le-ltb (lim .place) (length payload) f, lt-leb (B .high) (sOf B) (omega (arith, opens)), le-ltb room (headerLength + length payload) g)

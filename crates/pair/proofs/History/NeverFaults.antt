@@ -5,13 +5,13 @@ use mathlib.Core.Path.{sym, subst}
 use mathlib.Core.Bool.{Bool, true, false, not, _&&_}
 use mathlib.Core.List.{List, [], _∷_}
 use lib.Dec.{T, ltb, eqb, ltb→lt}
+use Rattle.table.specs.Limits.{Limits}
 use Rattle.pair.proofs.Lane.Half.{Packet, St, Body, Out}
 use Rattle.pair.proofs.Lane.Outcomes.{harmless, send-all, read-all, close-all}
 use Rattle.pair.proofs.Lane.Lane as lane
 use Rattle.pair.proofs.Lane.Lane.{put, get, shut, deliver, move, toward, stOf, half}
 use Rattle.pair.proofs.Lane.World.{World}
 use Rattle.pair.proofs.Lane.Acts.{Act, dial, greet, turn}
-use Rattle.pair.specs.World.{sized}
 use Rattle.pair.specs.Step.{Step, Reply}
 use Rattle.pair.specs.History.{Scene, Entry, history}
 use Rattle.pair.specs.Claims.{Every, Fine}
@@ -50,7 +50,7 @@ act-mild W (dial sid) = tt
 act-mild W greet = tt
 act-mild W (turn k n c) = turn-mild (W .sid n) c (stOf k (W .lanes n)) (half k (W .lanes n)) (toward k (W .lanes n))
 
-pub run-fine : {slots place : ℕ} {x : Scene} {W : World} {ss : List Step} {h : List Act} → Along slots place x W ss h → Every Fine (history (sized place) x ss)
+pub run-fine : {slots : ℕ} {lim : Limits} {x : Scene} {W : World} {ss : List Step} {h : List Act} → Along slots lim x W ss h → Every Fine (history lim x ss)
 unfolding history
 run-fine (over m) = tt
 run-fine (rests m r t) = (fine _ (r .mild), run-fine t)

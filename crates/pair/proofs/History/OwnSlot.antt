@@ -21,6 +21,7 @@ use Rattle.session.specs.Record.{free, inUse, freshOf}
 use Rattle.effect.specs.Taken.{cellOf}
 use Rattle.table.specs.Slots.{lowestFree}
 use Rattle.table.specs.End.{putOf}
+use Rattle.table.specs.Limits.{Limits}
 use Rattle.table.proofs.Lowest.{lowest-unused}
 use Rattle.take.specs.declared.Taken.{Taken}
 use Rattle.open.specs.Open.{synHeader}
@@ -29,7 +30,7 @@ use Rattle.pair.specs.Side.{Side, other, server}
 use Rattle.pair.proofs.Lane.World.{Item, syn, World}
 use Rattle.pair.proofs.Lane.Acts.{Act, greet}
 use Rattle.pair.proofs.Lane.Heads.{syn-known}
-use Rattle.pair.specs.World.{Party, Sizes, sized}
+use Rattle.pair.specs.World.{Party}
 use Rattle.pair.specs.Step.{Take, Step, did, acted, reached}
 use Rattle.pair.specs.Whose.{Notes, owners}
 use Rattle.pair.specs.History.{Scene, Entry, entry, history}
@@ -46,25 +47,25 @@ use Rattle.pair.proofs.History.Along.{Along, over, rests, acts}
 
 -- ---- a take that puts the record y into slot i
 
-module _ (place : ℕ) (x : Scene) (k : Side) (given lent : ℕ) where
+module _ (lim : Limits) (x : Scene) (k : Side) (given lent : ℕ) where
   abbrev step : Step
   step = record { side = k; call = Take given lent }
 
   abbrev made : Entry
-  made = entry (sized place) x step
+  made = entry lim x step
 
   abbrev p : Party
   p = x .world k
 
-  party : made .after .world k ≡ acted (did (sized place) (Take given lent) p) p
-  party = with-own k (acted (did (sized place) (Take given lent) p) p) (reached [] (x .world (other k))) (x .world)
+  party : made .after .world k ≡ acted (did lim (Take given lent) p) p
+  party = with-own k (acted (did lim (Take given lent) p) p) (reached [] (x .world (other k))) (x .world)
 
-  filed : (i : ℕ) (y : Session) (h : Header) → takeOf (sized place) (p .end) (take given (p .coming)) (length (take lent (p .storage))) ≡ takeDone h
+  filed : (i : ℕ) (y : Session) (h : Header) → takeOf lim (p .end) (take given (p .coming)) (length (take lent (p .storage))) ≡ takeDone h
       (putOf i y (p .end))
       → (n : ℕ) → made .whose ≡ some n → owners (Take given lent) p (made .whose) (made .reply) (x .book .notes k .owner) i ≡ n
       → inUse (slotAt x k i .state) ≡ not (eqb (h .flags) (flagsValue Syn))
-      → ((o : ℕ) → Outside (4 * place * i) (4 * place) o → getD (did (sized place) (Take given lent) p .storage) o 0 ≡ getD (p .storage) o 0)
-      → OwnSlot place made
+      → ((o : ℕ) → Outside (4 * lim .place * i) (4 * lim .place) o → getD (did lim (Take given lent) p .storage) o 0 ≡ getD (p .storage) o 0)
+      → OwnSlot (lim .place) made
   filed i y h answer n whose owner found bytes = record {
     slot = i;
     session = whose ∙ ap some (sym (ap (λ (b : Notes). b .owner i) (with-own k _ _ (x .book .notes)) ∙ owner));
@@ -74,43 +75,43 @@ module _ (place : ℕ) (x : Scene) (k : Side) (given lent : ℕ) where
     bytes = λ o u. ap (λ (q : Party). getD (q .storage) o 0) party ∙ bytes o (outside o u);
   }
     where
-      outside : (o : ℕ) → (o < 4 * place * i) ⊎ (4 * place * suc i ≤ o) → Outside (4 * place * i) (4 * place) o
+      outside : (o : ℕ) → (o < 4 * lim .place * i) ⊎ (4 * lim .place * suc i ≤ o) → Outside (4 * lim .place * i) (4 * lim .place) o
       outside o (inl u) = below u
-      outside o (inr u) = above (omega (arith, mul-suc (4 * place) i))
+      outside o (inr u) = above (omega (arith, mul-suc (4 * lim .place) i))
 
 -- ---- a run
 
-module _ {slots place : ℕ} (z : Sizes slots place) where
-  greet-filed : {x : Scene} {W : World} {l : List Item} (m : Mirror slots place x W) (given lent : ℕ) → W .chan server ≡ syn (W .known) ∷ l
-      → Given slots place (x .world server) (synFor (W .sid (W .known))) given lent
-      → Acted slots place x W (record { side = server; call = Take given lent }) greet
-      → OwnSlot place (entry (sized place) x (record { side = server; call = Take given lent }))
+module _ {slots : ℕ} {lim : Limits} where
+  greet-filed : {x : Scene} {W : World} {l : List Item} (m : Mirror slots lim x W) (given lent : ℕ) → W .chan server ≡ syn (W .known) ∷ l
+      → Given slots lim (x .world server) (synFor (W .sid (W .known))) given lent
+      → Acted slots lim x W (record { side = server; call = Take given lent }) greet
+      → OwnSlot (lim .place) (entry lim x (record { side = server; call = Take given lent }))
   greet-filed {x} {W} m given lent e g d =
       let i = lowestFree (x .world server .end .slots) in
-      let answer = greeting-answer z m given lent e g in
-      filed place x server given lent i (freshOf (W .sid (W .known))) (synHeader (W .sid (W .known))) answer (W .known) (d .whose)
-      (rw (answer, front-sender (m .at server) e, eq-eqb i i refl)) (lowest-unused (x .world server .end .slots) (greeting-room z m given lent e g))
-      (λ o u. ap (λ (b : List ℕ). getD b o 0) (greeting-storage z m given lent e g))
+      let answer = greeting-answer m given lent e g in
+      filed lim x server given lent i (freshOf (W .sid (W .known))) (synHeader (W .sid (W .known))) answer (W .known) (d .whose)
+      (rw (answer, front-sender (m .at server) e, eq-eqb i i refl)) (lowest-unused (x .world server .end .slots) (greeting-room m given lent e g))
+      (λ o u. ap (λ (b : List ℕ). getD b o 0) (greeting-storage m given lent e g))
 
-  act-filed : {x : Scene} {W : World} {s : Step} {a : Act} → Mirror slots place x W → Performs slots place x W s a → Acted slots place x W s a
-      → IsTake (s .call) → OwnSlot place (entry (sized place) x s)
+  act-filed : {x : Scene} {W : World} {s : Step} {a : Act} → Mirror slots lim x W → Performs slots lim x W s a → Acted slots lim x W s a
+      → IsTake (s .call) → OwnSlot (lim .place) (entry lim x s)
   act-filed m (opening h r) d t = absurd t
   act-filed m (sending i) d t = absurd t
   act-filed m (reading i) d t = absurd t
   act-filed m (closing i) d t = absurd t
   act-filed {x} {W} m (greeting {given} {lent} {n} {l} e g) d t =
       let q = syn-known (m .inv) n l e in
-      greet-filed m given lent (e ∙ ap (λ (j : ℕ). syn j ∷ l) q) (subst (λ (j : ℕ). Given slots place (x .world server) (synFor (W .sid j)) given lent) q g) d
+      greet-filed m given lent (e ∙ ap (λ (j : ℕ). syn j ∷ l) q) (subst (λ (j : ℕ). Given slots lim (x .world server) (synFor (W .sid j)) given lent) q g) d
   act-filed {x} {W} m (taking {k} {given} {lent} {n} {p} e g) d t =
-      let f = taking-slot z m e given lent g in
-      filed place x k given lent (f .index) (takenOn (kindOf p) (headerFor (W .sid n) p) (slot (x .world k) (f .index))) (headerFor (W .sid n) p)
-      (taking-answer z m e given lent g) n (d .whose)
-      (rw (taking-answer z m e given lent g, not-syn p) (f .owner)) (rw (not-syn p) (f .used))
-      (λ o u. ap (λ (b : List ℕ). getD b o 0) (taking-storage z m e given lent g)
-      ∙ kept-outside (cellOf (slot (x .world k) (f .index) .state) (kindOf p)) (taking-lent z m e given lent g) o u)
+      let f = taking-slot m e given lent g in
+      filed lim x k given lent (f .index) (takenOn (kindOf p) (headerFor (W .sid n) p) (slot (x .world k) (f .index))) (headerFor (W .sid n) p)
+      (taking-answer m e given lent g) n (d .whose)
+      (rw (taking-answer m e given lent g, not-syn p) (f .owner)) (rw (not-syn p) (f .used))
+      (λ o u. ap (λ (b : List ℕ). getD b o 0) (taking-storage m e given lent g)
+      ∙ kept-outside (cellOf (slot (x .world k) (f .index) .state) (kindOf p)) (taking-lent m e given lent g) o u)
 
-  pub run-filed : {x : Scene} {W : World} {ss : List Step} {t : List Act} → Along slots place x W ss t
-      → Every (λ (e : Entry). IsTake (e .step .call) → e .reply .number ≡ 0 → OwnSlot place e) (history (sized place) x ss)
+  pub run-filed : {x : Scene} {W : World} {ss : List Step} {t : List Act} → Along slots lim x W ss t
+      → Every (λ (e : Entry). IsTake (e .step .call) → e .reply .number ≡ 0 → OwnSlot (lim .place) e) (history lim x ss)
   unfolding history
   run-filed (over m) = tt
   run-filed (rests m r l) = (λ t n. absurd (r .refused n), run-filed l)

@@ -7,6 +7,7 @@ use mathlib.Core.List.{List, [], _∷_, _++_, append-nil, append-assoc, flatMap,
 use mathlib.Core.Option.{some, Option, none}
 use lib.ListN.{length, drop, length-append}
 use lib.Seq.{drop-at}
+use Rattle.table.specs.Limits.{Limits}
 use Rattle.pair.specs.Side.{Side}
 use Rattle.pair.proofs.Lane.Half.{Packet}
 use Rattle.pair.proofs.Lane.Lane.{Call, put, get, shut, deliver}
@@ -72,37 +73,37 @@ mark-bytes n (b ∷ bs) = append-nil (b ∷ bs)
 -- ---- no payload is longer than a place
 
 -- a payload emitted
-abbrev pub FitsIn : ℕ → Option Packet → Type 0
-FitsIn place none = Unit
-FitsIn place (some q) = length (payloadOf q) ≤ place
+abbrev pub FitsIn : Limits → Option Packet → Type 0
+FitsIn lim none = Unit
+FitsIn lim (some q) = length (payloadOf q) ≤ lim .place
 
-pub small-append : (place : ℕ) (l r : List Item) → Small place l → Small place r → Small place (l ++ r)
-small-append place [] r s t = t
-small-append place (syn n ∷ l) r s t = small-append place l r s t
-small-append place (pkt n p ∷ l) r s t = (s .0, small-append place l r (s .1) t)
+pub small-append : (lim : Limits) (l r : List Item) → Small lim l → Small lim r → Small lim (l ++ r)
+small-append lim [] r s t = t
+small-append lim (syn n ∷ l) r s t = small-append lim l r s t
+small-append lim (pkt n p ∷ l) r s t = (s .0, small-append lim l r (s .1) t)
 
-small-rest : (place : ℕ) (l : List Item) → Small place l → Small place (behind l)
-small-rest place [] s = tt
-small-rest place (syn n ∷ l) s = s
-small-rest place (pkt n p ∷ l) s = s .1
+small-rest : (lim : Limits) (l : List Item) → Small lim l → Small lim (behind l)
+small-rest lim [] s = tt
+small-rest lim (syn n ∷ l) s = s
+small-rest lim (pkt n p ∷ l) s = s .1
 
-pub small-after : (place : ℕ) (c : Call) (l : List Item) → Small place l → Small place (after c l)
-small-after place (put p R) l s = s
-small-after place (get R) l s = s
-small-after place (shut R) l s = s
-small-after place deliver l s = small-rest place l s
+pub small-after : (lim : Limits) (c : Call) (l : List Item) → Small lim l → Small lim (after c l)
+small-after lim (put p R) l s = s
+small-after lim (get R) l s = s
+small-after lim (shut R) l s = s
+small-after lim deliver l s = small-rest lim l s
 
-pub small-push : (place n : ℕ) (o : Option Packet) (l : List Item) → FitsIn place o → Small place l → Small place (pushItem n o l)
-small-push place n none l h s = s
-small-push place n (some q) l h s = small-append place l (pkt n q ∷ []) s (h, tt)
+pub small-push : (lim : Limits) (n : ℕ) (o : Option Packet) (l : List Item) → FitsIn lim o → Small lim l → Small lim (pushItem n o l)
+small-push lim n none l h s = s
+small-push lim n (some q) l h s = small-append lim l (pkt n q ∷ []) s (h, tt)
 
 -- ---- the channel to a side
 
 -- it stands for its items
-pub record Channel (place : ℕ) (W : World) (k : Side) (coming : List ℕ) (ms : List Marked) : Type 0 where
+pub record Channel (lim : Limits) (W : World) (k : Side) (coming : List ℕ) (ms : List Marked) : Type 0 where
   pub marks : ms ≡ map (markOf (W .sid)) (W .chan k)
   pub bytes : coming ≡ flatMap (λ (m : Marked). m .bytes) ms
-  pub small : Small place (W .chan k)
+  pub small : Small lim (W .chan k)
 
 -- the marks and the bytes of items
 abbrev pub marksOf : World → List Item → List Marked
@@ -111,7 +112,7 @@ marksOf W l = map (markOf (W .sid)) l
 abbrev pub bytesOf : World → List Item → List ℕ
 bytesOf W l = flatMap (λ (m : Marked). m .bytes) (marksOf W l)
 
-module _ {slots place : ℕ} {W : World} {k : Side} {p : Party} {b : Notes} (a : MirrorAt slots place W k p b) where
+module _ {slots : ℕ} {lim : Limits} {W : World} {k : Side} {p : Party} {b : Notes} (a : MirrorAt slots lim W k p b) where
   pub all-bytes : p .coming ≡ bytesOf W (W .chan k)
   all-bytes = a .bytes ∙ ap (flatMap (λ (m : Marked). m .bytes)) (a .marks)
 
@@ -133,13 +134,13 @@ module _ {slots place : ℕ} {W : World} {k : Side} {p : Party} {b : Notes} (a :
 
 -- ---- a packet's SID has two bytes, and its payload is no longer than a place
 
-module _ {slots place : ℕ} {x : Scene} {W : World} (m : Mirror slots place x W) {k : Side} {n : ℕ} {p : Packet} {l : List Item}
+module _ {slots : ℕ} {lim : Limits} {x : Scene} {W : World} (m : Mirror slots lim x W) {k : Side} {n : ℕ} {p : Packet} {l : List Item}
     (e : W .chan k ≡ pkt n p ∷ l) where
   pub packet-low : W .sid n < 2 ^ 16
   packet-low = let b : Below (W .born) (pkt n p ∷ l) = rw e at (items-below (m .inv) k) in m .low n (b .0)
 
-  pub packet-small : length (payloadOf p) ≤ place
-  packet-small = let s : Small place (pkt n p ∷ l) = rw e at (m .at k .small) in s .0
+  pub packet-small : length (payloadOf p) ≤ lim .place
+  packet-small = let s : Small lim (pkt n p ∷ l) = rw e at (m .at k .small) in s .0
 
 -- ---- no bytes are on their way where no item is
 
@@ -147,7 +148,7 @@ item-size : (sid : ℕ → ℕ) (i : Item) → 0 < length (markOf sid i .bytes)
 item-size sid (syn n) = omega (arith, syn-size (sid n))
 item-size sid (pkt n p) = omega (arith, packet-size (sid n) p)
 
-pub no-items : {slots place : ℕ} {x : Scene} {W : World} → Mirror slots place x W → (k : Side) → x .world k .coming ≡ [] → W .chan k ≡ []
+pub no-items : {slots : ℕ} {lim : Limits} {x : Scene} {W : World} → Mirror slots lim x W → (k : Side) → x .world k .coming ≡ [] → W .chan k ≡ []
 no-items {x = x} {W} m k e = by (W .chan k) refl
   where
     by : (l : List Item) → W .chan k ≡ l → l ≡ []

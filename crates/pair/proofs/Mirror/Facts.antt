@@ -17,6 +17,7 @@ use Rattle.table.specs.Storage.{storageLength}
 use Rattle.table.proofs.SlotAt.{At, at-holds, at-slot, slot-at, held-within, held-used, held-named, holds-none, parts-made}
 use Rattle.table.proofs.Lowest.{lowest-within, lowest-unused, full-used}
 use Rattle.table.specs.Well.{wellMade}
+use Rattle.table.specs.Limits.{Limits}
 use Rattle.calling.specs.Calling.{shortStorage}
 use Rattle.pair.specs.Side.{Side}
 use Rattle.pair.proofs.Lane.Lane.{half, stOf}
@@ -24,7 +25,6 @@ use Rattle.pair.proofs.Lane.Inv.{Ranges}
 use Rattle.pair.proofs.Lane.Story.{ranges-at}
 use Rattle.pair.proofs.Lane.Tables.{has}
 use Rattle.pair.proofs.Lane.World.{World}
-use Rattle.pair.specs.World.{sized}
 use Rattle.pair.specs.Whose.{named}
 use Rattle.pair.specs.History.{Scene}
 use Rattle.pair.proofs.Record.Stands.{stateOf, Stands, stands-order, live-used}
@@ -32,15 +32,15 @@ use Rattle.pair.proofs.Mirror.Scene.{slot, SlotFor, Mirror}
 use Rattle.pair.proofs.Mirror.Owners.{free-room, full-table}
 
 -- so many bytes of a storage of that length are too few
-abbrev pub tooShort : ℕ → ℕ → ℕ → ℕ → Bool
-tooShort slots place lent all = ltb (min lent all) (storageLength place slots)
+abbrev pub tooShort : ℕ → Limits → ℕ → ℕ → Bool
+tooShort slots lim lent all = ltb (min lent all) (storageLength (lim .place) slots)
 
 -- a call that names the SID of lane n, which the table lists
 pub record Names (W : World) (k : Side) (n sid : ℕ) : Type 0 where
   pub listed : T (has n (W .table k))
   pub name : W .sid n ≡ sid
 
-module _ {slots place : ℕ} {x : Scene} {W : World} (m : Mirror slots place x W) (k : Side) where
+module _ {slots : ℕ} {lim : Limits} {x : Scene} {W : World} (m : Mirror slots lim x W) (k : Side) where
   -- the half of any lane
   pub ranges-of : (n : ℕ) → Ranges (half k (W .lanes n))
   ranges-of n = ranges-at (W .lanes n) (m .inv .good n) k
@@ -58,14 +58,14 @@ module _ {slots place : ℕ} {x : Scene} {W : World} (m : Mirror slots place x W
   within : (i : ℕ) → i < length (x .world k .end .slots) → i < slots
   within i h = omega (arith, m .at k .many)
 
-  each : (i : ℕ) → i < slots → InOrder window place (slot (x .world k) i)
+  each : (i : ℕ) → i < slots → InOrder (lim .window) (lim .place) (slot (x .world k) i)
   each i h = by (inUse (slot (x .world k) i .state)) refl
     where
-      by : (b : Bool) → inUse (slot (x .world k) i .state) ≡ b → InOrder window place (slot (x .world k) i)
+      by : (b : Bool) → inUse (slot (x .world k) i .state) ≡ b → InOrder (lim .window) (lim .place) (slot (x .world k) i)
       by true u =
           let f = m .at k .filled i h u in
-          stands-order (f .stands) (ranges-of (x .book .notes k .owner i)) (lane-used (x .book .notes k .owner i) (f .listed))
-      by false u = rw (m .at k .unused i h u) (free-order window place)
+          stands-order (f .stands) (ranges-of (x .book .notes k .owner i)) (m .sizes .wide) (lane-used (x .book .notes k .owner i) (f .listed))
+      by false u = rw (m .at k .unused i h u) (free-order (lim .window) (lim .place))
 
   -- two slots in use with one SID are one
   apart : (i j : ℕ) → i < slots → j < slots → inUse (slot (x .world k) i .state) ≡ true → inUse (slot (x .world k) j .state) ≡ true
@@ -75,21 +75,21 @@ module _ {slots place : ℕ} {x : Scene} {W : World} (m : Mirror slots place x W
       (m .inv .tables k .apart (x .book .notes k .owner i) (x .book .notes k .owner j) (m .at k .filled i h u .listed) (m .at k .filled j l v .listed)
       (sym (slot-sid i h u) ∙ e ∙ slot-sid j l v))
 
-  pub made-at : wellMade (sized place) (x .world k .end) ≡ true
-  made-at = parts-made (sized place) (x .world k .end) (m .at k .up) (λ i h. each i (within i h)) (λ i j h l. apart i j (within i h) (within j l))
+  pub made-at : wellMade lim (x .world k .end) ≡ true
+  made-at = parts-made lim (x .world k .end) (m .at k .up) (λ i h. each i (within i h)) (λ i j h l. apart i j (within i h) (within j l))
 
   -- ---- a lane by its SID
 
   pub lane-at : (n : ℕ) → T (has n (W .table k)) → (f : SlotFor slots (x .world k) (x .book .notes k) n) → At (W .sid n) (f .index) (x .world k .end .slots)
   lane-at n t f =
-      slot-at (sized place) (x .world k .end) made-at (W .sid n) (f .index) (omega (arith, f .within, m .at k .many)) (f .used)
+      slot-at lim (x .world k .end) made-at (W .sid n) (f .index) (omega (arith, f .within, m .at k .many)) (f .used)
       (slot-sid (f .index) (f .within) (f .used) ∙ ap (W .sid) (f .owner))
 
   -- the slot of a lane stands for its half
   pub lane-stands : (n : ℕ) (f : SlotFor slots (x .world k) (x .book .notes k) n)
-      → Stands place (f .index) (x .world k .storage) (slot (x .world k) (f .index)) (W .sid n) (stOf k (W .lanes n)) (half k (W .lanes n))
+      → Stands lim (f .index) (x .world k .storage) (slot (x .world k) (f .index)) (W .sid n) (stOf k (W .lanes n)) (half k (W .lanes n))
   lane-stands n f =
-      subst (λ (l : ℕ). Stands place (f .index) (x .world k .storage) (slot (x .world k) (f .index)) (W .sid l) (stOf k (W .lanes l)) (half k (W .lanes l)))
+      subst (λ (l : ℕ). Stands lim (f .index) (x .world k .storage) (slot (x .world k) (f .index)) (W .sid l) (stOf k (W .lanes l)) (half k (W .lanes l)))
       (f .owner) (m .at k .filled (f .index) (f .within) (f .used) .stands)
 
   pub named-is : (n : ℕ) → T (has n (W .table k)) → named (W .sid n) (x .world k) (x .book .notes k) ≡ some n
@@ -133,7 +133,7 @@ module _ {slots place : ℕ} {x : Scene} {W : World} (m : Mirror slots place x W
   -- ---- the storage
 
   pub short-is : (lent : ℕ)
-      → shortStorage (sized place) (x .world k .end) (length (take lent (x .world k .storage))) ≡ tooShort slots place lent (length (x .world k .storage))
+      → shortStorage lim (x .world k .end) (length (take lent (x .world k .storage))) ≡ tooShort slots lim lent (length (x .world k .storage))
   short-is lent =
-      ap (λ (n : ℕ). ltb n (storageLength place (length (x .world k .end .slots)))) (length-take lent (x .world k .storage))
-      ∙ ap (λ (n : ℕ). tooShort n place lent (length (x .world k .storage))) (m .at k .many)
+      ap (λ (n : ℕ). ltb n (storageLength (lim .place) (length (x .world k .end .slots)))) (length-take lent (x .world k .storage))
+      ∙ ap (λ (n : ℕ). tooShort n lim lent (length (x .world k .storage))) (m .at k .many)

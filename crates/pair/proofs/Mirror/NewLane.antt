@@ -16,6 +16,7 @@ use Rattle.session.specs.declared.record.Session.{Session}
 use Rattle.session.specs.Record.{inUse, free, freshOf}
 use Rattle.table.specs.Slots.{lowestFree, full}
 use Rattle.table.specs.End.{putOf}
+use Rattle.table.specs.Limits.{Limits}
 use Rattle.table.proofs.Lowest.{lowest-within, lowest-unused}
 use Rattle.pair.specs.Side.{Side}
 use Rattle.pair.proofs.Lane.Half.{est, fresh}
@@ -30,18 +31,18 @@ use Rattle.pair.proofs.Mirror.Scene.{slot, Filled, SlotFor, MirrorAt}
 use Rattle.pair.proofs.Mirror.Channels.{Channel}
 
 -- a slot that stays, with its lane
-filled-kept : {place : ℕ} {W W' : World} {k : Side} {p p' : Party} {i n : ℕ} → slot p' i ≡ slot p i → p' .storage ≡ p .storage → Kept W W' k n
+filled-kept : {lim : Limits} {W W' : World} {k : Side} {p p' : Party} {i n : ℕ} → slot p' i ≡ slot p i → p' .storage ≡ p .storage → Kept W W' k n
     → T (has n (W' .table k))
-    → Filled place W k p i n → Filled place W' k p' i n
+    → Filled lim W k p i n → Filled lim W' k p' i n
 filled-kept e s c t f = record { listed = t; stands = rw (e, s, c .sid, c .st, c .body) (f .stands) }
 
-module _ {slots place : ℕ} {W : World} {k : Side} {p : Party} {b : Notes} (a : MirrorAt slots place W k p b)
+module _ {slots : ℕ} {lim : Limits} {W : World} {k : Side} {p : Party} {b : Notes} (a : MirrorAt slots lim W k p b)
     (W' : World) (kept : (j : ℕ) → T (has j (W .table k)) → Kept W W' k j)
-    {coming : List ℕ} {ms : List Marked} (c : Channel place W' k coming ms) where
+    {coming : List ℕ} {ms : List Marked} (c : Channel lim W' k coming ms) where
   -- ---- the slots stay
 
   pub stays-at : W' .table k ≡ W .table k
-      → MirrorAt slots place W' k (record { end = p .end; storage = p .storage; coming = coming }) (record { coming = ms; owner = b .owner })
+      → MirrorAt slots lim W' k (record { end = p .end; storage = p .storage; coming = coming }) (record { coming = ms; owner = b .owner })
   stays-at e = record {
     role = a .role;
     up = a .up;
@@ -89,10 +90,10 @@ module _ {slots place : ℕ} {W : World} {k : Side} {p : Party} {b : Notes} (a :
     listed' : (j : ℕ) → T (has j (W .table k)) → T (has j (W' .table k))
     listed' j t = rw table (or-right (eqb j n) (has j (W .table k)) t)
 
-    filled' : (j : ℕ) → j < slots → Used j → Filled place W' k p' j (owner' j)
+    filled' : (j : ℕ) → j < slots → Used j → Filled lim W' k p' j (owner' j)
     filled' j h (now q o) = rw o (record {
       listed = rw table (has-head n (W .table k));
-      stands = rw (ap (slot p') q ∙ slot-new, name, st, body) (fresh-stands place j (p .storage) sid);
+      stands = rw (ap (slot p') q ∙ slot-new, name, st, body) (fresh-stands lim j (p .storage) sid);
     })
     filled' j h (before q u o) = rw o (let f = a .filled j h u in filled-kept (slot-old j q) refl (kept (b .owner j) (f .listed))
         (listed' (b .owner j) (f .listed)) f)
@@ -130,7 +131,7 @@ module _ {slots place : ℕ} {W : World} {k : Side} {p : Party} {b : Notes} (a :
         by f (same q e) = never (sym (lowest-unused (p .end .slots) room) ∙ (rw q at (f .used)))
         by f (differ q e) = record { index = f .index; within = f .within; used = rw (slot-old (f .index) q) (f .used); owner = rw e (f .owner) }
 
-    pub new-at : MirrorAt slots place W' k
+    pub new-at : MirrorAt slots lim W' k
         (record { end = putOf (lowestFree (p .end .slots)) (freshOf sid) (p .end); storage = p .storage; coming = coming })
         (record { coming = ms; owner = given (lowestFree (p .end .slots)) (some n) (b .owner) })
     new-at = record {

@@ -17,6 +17,7 @@ use Rattle.session.specs.declared.record.Session.{Session}
 use Rattle.session.specs.Record.{inUse, free}
 use Rattle.table.specs.declared.end.End.{End}
 use Rattle.table.specs.End.{putOf}
+use Rattle.table.specs.Limits.{Limits}
 use Rattle.pair.specs.Side.{Side, other}
 use Rattle.pair.proofs.Lane.Half.{St, Body}
 use Rattle.pair.proofs.Lane.Lane.{Call, Lane, stOf, moved}
@@ -52,36 +53,36 @@ stepped x k p b who sent = record {
 }
 
 -- what the step of lane n, in slot i at side k, has to be
-pub record OwnStep (place : ℕ) (x : Scene) (W : World) (k : Side) (n : ℕ) (c : Call) (i : ℕ) (p : Party) (b : Notes) (who : Option ℕ)
+pub record OwnStep (lim : Limits) (x : Scene) (W : World) (k : Side) (n : ℕ) (c : Call) (i : ℕ) (p : Party) (b : Notes) (who : Option ℕ)
     (sent : List ℕ) : Type 0 where
   pub session : Session
   pub end : p .end ≡ putOf i session (x .world k .end)
-  pub others : (j : ℕ) → j ≢ i → Agree (4 * place * j) (4 * place) (x .world k .storage) (p .storage)
-  pub become : After place i (p .storage) session (W .sid n) (moved k c (W .lanes n) .out .st) (moved k c (W .lanes n) .out .body)
+  pub others : (j : ℕ) → j ≢ i → Agree (4 * lim .place * j) (4 * lim .place) (x .world k .storage) (p .storage)
+  pub become : After lim i (p .storage) session (W .sid n) (moved k c (W .lanes n) .out .st) (moved k c (W .lanes n) .out .body)
   pub owner : b .owner ≡ x .book .notes k .owner
   pub marks : b .coming ≡ map (markOf (W .sid)) (after c (W .chan k))
   pub bytes : p .coming ≡ flatMap (λ (m : Marked). m .bytes) (b .coming)
   pub whose : who ≡ some n
   pub packet : sent ≡ emitted (W .sid n) (moved k c (W .lanes n) .out .emit)
-  pub small : FitsIn place (moved k c (W .lanes n) .out .emit)
+  pub small : FitsIn lim (moved k c (W .lanes n) .out .emit)
 
 -- ---- the record after it
 
-module _ {place i : ℕ} {storage : List ℕ} {y : Session} {sid : ℕ} {st : St} {B : Body} where
-  after-used : T (live st) → After place i storage y sid st B → inUse (y .state) ≡ true
+module _ {lim : Limits} {i : ℕ} {storage : List ℕ} {y : Session} {sid : ℕ} {st : St} {B : Body} where
+  after-used : T (live st) → After lim i storage y sid st B → inUse (y .state) ≡ true
   after-used l (stands u a) = stands-used a u
   after-used l (freed g e) = absurd (rw g at l)
 
-  after-free : inUse (y .state) ≡ false → After place i storage y sid st B → y ≡ free
+  after-free : inUse (y .state) ≡ false → After lim i storage y sid st B → y ≡ free
   after-free f (stands u a) = never (sym f ∙ stands-used a u)
   after-free f (freed g e) = e
 
 -- ---- the mirror after the step
 
-module _ {slots place : ℕ} {x : Scene} {W : World} (m : Mirror slots place x W) {k : Side} {n : ℕ} {c : Call} (t : T (has n (W .table k)))
+module _ {slots : ℕ} {lim : Limits} {x : Scene} {W : World} (m : Mirror slots lim x W) {k : Side} {n : ℕ} {c : Call} (t : T (has n (W .table k)))
     (r : Ready c n (W .chan k))
     (f : SlotFor slots (x .world k) (x .book .notes k) n) {p : Party} {b : Notes} {who : Option ℕ} {sent : List ℕ}
-    (s : OwnStep place x W k n c (f .index) p b who sent) where
+    (s : OwnStep lim x W k n c (f .index) p b who sent) where
   abbrev p₁ : Party
   p₁ = record { end = putOf (f .index) (s .session) (x .world k .end); storage = p .storage; coming = p .coming }
 
@@ -118,11 +119,11 @@ module _ {slots place : ℕ} {x : Scene} {W : World} (m : Mirror slots place x W
 
   -- ---- its slot, and the others
 
-  now-filled : After place (f .index) (p .storage) (s .session) (W .sid n) (moved k c (W .lanes n) .out .st) (moved k c (W .lanes n) .out .body)
-      → inUse (s .session .state) ≡ true → Filled place (own W k n c) k p₁ (f .index) n
+  now-filled : After lim (f .index) (p .storage) (s .session) (W .sid n) (moved k c (W .lanes n) .out .st) (moved k c (W .lanes n) .out .body)
+      → inUse (s .session .state) ≡ true → Filled lim (own W k n c) k p₁ (f .index) n
   now-filled (stands v a) u = record {
     listed = now-listed v;
-    stands = own-half W k n c (Stands place (f .index) (p .storage) (slot p₁ (f .index)) (W .sid n)) (rw slot-now a);
+    stands = own-half W k n c (Stands lim (f .index) (p .storage) (slot p₁ (f .index)) (W .sid n)) (rw slot-now a);
   }
   now-filled (freed g e) u = never (sym (ap (λ (y : Session). inUse (y .state)) e) ∙ u)
 
@@ -130,7 +131,7 @@ module _ {slots place : ℕ} {x : Scene} {W : World} (m : Mirror slots place x W
   apart : (j : ℕ) → j < slots → j ≢ f .index → inUse (slot (x .world k) j .state) ≡ true → owned j ≢ n
   apart j h d u q = d (m .at k .once j (f .index) h (f .within) u (f .used) (q ∙ sym (f .owner)))
 
-  else-filled : (j : ℕ) → j < slots → j ≢ f .index → inUse (slot (x .world k) j .state) ≡ true → Filled place (own W k n c) k p₁ j (owned j)
+  else-filled : (j : ℕ) → j < slots → j ≢ f .index → inUse (slot (x .world k) j .state) ≡ true → Filled lim (own W k n c) k p₁ j (owned j)
   else-filled j h d u =
       let g = m .at k .filled j h u in
       let a = apart j h d u in
@@ -139,14 +140,14 @@ module _ {slots place : ℕ} {x : Scene} {W : World} (m : Mirror slots place x W
         stands = rw (slot-else j d, others-still W k n c (owned j) a) (stands-agree (s .others j d) (g .stands));
       }
 
-  filled : (j : ℕ) → j < slots → inUse (slot p₁ j .state) ≡ true → Filled place (own W k n c) k p₁ j (owned j)
+  filled : (j : ℕ) → j < slots → inUse (slot p₁ j .state) ≡ true → Filled lim (own W k n c) k p₁ j (owned j)
   filled j h u = by (eq? j (f .index))
     where
-      by : Eq? j (f .index) (eqb j (f .index)) → Filled place (own W k n c) k p₁ j (owned j)
+      by : Eq? j (f .index) (eqb j (f .index)) → Filled lim (own W k n c) k p₁ j (owned j)
       by (same q e) =
           let v : inUse (s .session .state) ≡ true = sym (ap (λ (y : Session). inUse (y .state)) (ap (slot p₁) q ∙ slot-now)) ∙ u in
-          subst (λ (i : ℕ). Filled place (own W k n c) k p₁ i (owned i)) (sym q)
-          (subst (Filled place (own W k n c) k p₁ (f .index)) (sym (f .owner)) (now-filled (s .become) v))
+          subst (λ (i : ℕ). Filled lim (own W k n c) k p₁ i (owned i)) (sym q)
+          (subst (Filled lim (own W k n c) k p₁ (f .index)) (sym (f .owner)) (now-filled (s .become) v))
       by (differ q e) = else-filled j h q (rw (slot-else j q) at u)
 
   was-used : (j : ℕ) → inUse (slot p₁ j .state) ≡ true → inUse (slot (x .world k) j .state) ≡ true
@@ -182,10 +183,10 @@ module _ {slots place : ℕ} {x : Scene} {W : World} (m : Mirror slots place x W
 
   -- ---- each side
 
-  mine : MirrorAt slots place (own W k n c) k p b
+  mine : MirrorAt slots lim (own W k n c) k p b
   mine =
-      subst (λ (e : End). MirrorAt slots place (own W k n c) k (record { end = e; storage = p .storage; coming = p .coming }) b) (sym (s .end))
-      (subst (λ (o : ℕ → ℕ). MirrorAt slots place (own W k n c) k p₁ (record { coming = b .coming; owner = o })) (sym (s .owner)) (record {
+      subst (λ (e : End). MirrorAt slots lim (own W k n c) k (record { end = e; storage = p .storage; coming = p .coming }) b) (sym (s .end))
+      (subst (λ (o : ℕ → ℕ). MirrorAt slots lim (own W k n c) k p₁ (record { coming = b .coming; owner = o })) (sym (s .owner)) (record {
         role = m .at k .role;
         up = m .at k .up;
         many = length-set (x .world k .end .slots) (f .index) (s .session) ∙ m .at k .many;
@@ -195,10 +196,10 @@ module _ {slots place : ℕ} {x : Scene} {W : World} (m : Mirror slots place x W
         once = λ i j h l u v. m .at k .once i j h l (was-used i u) (was-used j v);
         marks = s .marks ∙ ap (map (markOf (W .sid))) (sym (own-chan W n c k));
         bytes = s .bytes;
-        small = rw (own-chan W n c k) (small-after place c (W .chan k) (m .at k .small));
+        small = rw (own-chan W n c k) (small-after lim c (W .chan k) (m .at k .small));
       }))
 
-  theirs : MirrorAt slots place (own W k n c) (other k) (reached sent (x .world (other k)))
+  theirs : MirrorAt slots lim (own W k n c) (other k) (reached sent (x .world (other k)))
       (record { coming = x .book .notes (other k) .coming ++ marked who sent; owner = x .book .notes (other k) .owner })
   theirs =
       let a = m .at (other k) in
@@ -211,13 +212,14 @@ module _ {slots place : ℕ} {x : Scene} {W : World} (m : Mirror slots place x W
         bytes = ap (λ (l : List ℕ). l ++ sent) (a .bytes)
             ∙ ap (λ (l : List ℕ). bytes ms ++ l) (sym (ap (λ (o : Option ℕ). bytes (marked o sent)) (s .whose) ∙ mark-bytes n sent))
             ∙ sym (stream-append (λ (m : Marked). m .bytes) ms (marked who sent));
-        small = rw (their-chan W n c k) (small-push place n (moved k c (W .lanes n) .out .emit) (W .chan (other k)) (s .small) (a .small));
+        small = rw (their-chan W n c k) (small-push lim n (moved k c (W .lanes n) .out .emit) (W .chan (other k)) (s .small) (a .small));
       }) (their-table W n c k)
 
-  pub own-mirror : Mirror slots place (stepped x k p b who sent) (own W k n c)
+  pub own-mirror : Mirror slots lim (stepped x k p b who sent) (own W k n c)
   own-mirror = record {
+    sizes = m .sizes;
     inv = inv;
-    at = with-sides (MirrorAt slots place (own W k n c)) (x .world) (x .book .notes) k mine theirs;
+    at = with-sides (MirrorAt slots lim (own W k n c)) (x .world) (x .book .notes) k mine theirs;
     opened = m .opened;
     low = m .low;
   }

@@ -22,13 +22,13 @@ use Rattle.session.specs.Record.{inUse, established, finSent, finReceived, unre
 use Rattle.session.specs.Changes.{sentOn, withState, closedIn, closedOn, readOn}
 use Rattle.session.proofs.Wrap.{plus-counts, same-counts, place-counts, back-counts}
 use Rattle.table.specs.Storage.{placeStart}
+use Rattle.table.specs.Limits.{Limits}
 use Rattle.send.specs.Send.{sendCases, dataHeader}
 use Rattle.read.specs.Read.{oldestLength, readCases, ackHeader, ackOn, oldestIn}
 use Rattle.close.specs.Close.{closeCases, finHeader}
 use Rattle.pair.proofs.Lane.Half.{Bytes, St, est, fs, fr, gone, Body, sOf, gOf, dat, Out, Room, sent, shut, tight, send, fin, ending, close, ack, later}
 use Rattle.pair.proofs.Lane.Half.{cramped, readOne, readLast, readE, readR, read}
 use Rattle.pair.proofs.Lane.Inv.{Ranges}
-use Rattle.pair.specs.World.{sized}
 use Rattle.pair.proofs.Bytes.Encoded.{packetFor, headerFor, handed}
 use Rattle.pair.proofs.Record.Stands.{stateOf, Stands, turned-stands, unread-counts, Lies, lies-place}
 use Rattle.pair.proofs.Record.Does.{stands, Done, Does, does-skip, does-stop, does-test, does-done, freed}
@@ -39,12 +39,12 @@ header-counts k n a b c = cc
 
 -- ---- send
 
-module _ {size i : ℕ} {storage : List ℕ} {x : Session} {sid : ℕ} {B : Body} where
+module _ {lim : Limits} {i : ℕ} {storage : List ℕ} {x : Session} {sid : ℕ} {B : Body} where
   -- the next SEQNUM
-  next : {st : St} → Stands size i storage x sid st B → plus (x .s) 1 ≡ suc (sOf B) % 2 ^ 32
+  next : {st : St} → Stands lim i storage x sid st B → plus (x .s) 1 ≡ suc (sOf B) % 2 ^ 32
   next a = rw (a .s) (plus-counts (sOf B) 1 ∙ ap (λ (n : ℕ). n % 2 ^ 32) (omega arith))
 
-  sent-stands : Stands size i storage x sid est B → (p : Bytes) → Stands size i storage (sentOn x) sid est (sent B p .body)
+  sent-stands : Stands lim i storage x sid est B → (p : Bytes) → Stands lim i storage (sentOn x) sid est (sent B p .body)
   sent-stands a p = record {
     sid = a .sid;
     state = a .state;
@@ -57,12 +57,13 @@ module _ {size i : ℕ} {storage : List ℕ} {x : Session} {sid : ℕ} {B : Body
     ring = a .ring;
   }
 
-  sent-packet : Stands size i storage x sid est B → (p : Bytes) → packetBytes (dataHeader x (length p)) p ≡ packetFor sid (dat (suc (sOf B)) (gOf B) p)
+  sent-packet : Stands lim i storage x sid est B → (p : Bytes) → packetBytes (dataHeader x (length p)) p ≡ packetFor sid (dat (suc (sOf B)) (gOf B) p)
   sent-packet a p = ap (λ (h : Header). packetBytes h p) (header-counts Data (headerLength + length p) (a .sid) (next a) (a .g))
 
-  pub send-does : (s : St) → Stands size i storage x sid s B → Ranges B → inUse (stateOf s) ≡ true → (p : Bytes) (R : Room) → R .big ≡ ltb size (length p)
-      → Does (Done size i storage (sentOn x) sid (packetBytes (dataHeader x (length p)) p) []) s B
-      (sendCases (sized size) x (length p) (R .buf)) (send p R s B)
+  pub send-does : (s : St) → Stands lim i storage x sid s B → Ranges B → inUse (stateOf s) ≡ true → (p : Bytes) (R : Room)
+      → R .big ≡ ltb (lim .place) (length p)
+      → Does (Done lim i storage (sentOn x) sid (packetBytes (dataHeader x (length p)) p) []) s B
+      (sendCases lim x (length p) (R .buf)) (send p R s B)
   send-does est a b u p R big =
       does-skip (ap (λ (st : State). not (established st)) (a .state))
       (does-test (R .big) _ (sym big) (omega arith)
@@ -75,13 +76,13 @@ module _ {size i : ℕ} {storage : List ℕ} {x : Session} {sid : ℕ} {B : Body
 
 -- ---- close
 
-module _ {size i : ℕ} {storage : List ℕ} {x : Session} {sid : ℕ} {B : Body} where
-  closed-packet : {s : St} → Stands size i storage x sid s B → headerBytes (finHeader x) ≡ packetFor sid (fin (sOf B) (gOf B))
+module _ {lim : Limits} {i : ℕ} {storage : List ℕ} {x : Session} {sid : ℕ} {B : Body} where
+  closed-packet : {s : St} → Stands lim i storage x sid s B → headerBytes (finHeader x) ≡ packetFor sid (fin (sOf B) (gOf B))
   closed-packet a = ap headerBytes (header-counts Fin headerLength (a .sid) (a .s) (a .g))
       ∙ sym (append-nil (headerBytes (headerFor sid (fin (sOf B) (gOf B)))))
 
-  pub close-does : (s : St) → Stands size i storage x sid s B → inUse (stateOf s) ≡ true → (R : Room)
-      → Does (Done size i storage (closedOn x) sid (headerBytes (finHeader x)) []) s B (closeCases x (R .buf)) (close R s B)
+  pub close-does : (s : St) → Stands lim i storage x sid s B → inUse (stateOf s) ≡ true → (R : Room)
+      → Does (Done lim i storage (closedOn x) sid (headerBytes (finHeader x)) []) s B (closeCases x (R .buf)) (close R s B)
   close-does est a u R =
       does-skip (ap finSent (a .state))
       (does-test (ltb (R .buf) 16) _ refl (omega arith)
@@ -104,16 +105,16 @@ module _ {size i : ℕ} {storage : List ℕ} {x : Session} {sid : ℕ} {B : Body
 -- ---- read
 
 -- the record, the ACK and the payload that a read makes are those of the half's step, and the length that it tells is the payload's
-pub record Reads (size i : ℕ) (storage : List ℕ) (x : Session) (sid : ℕ) (o : Out) : Type 0 where
-  pub done : Done size i storage (readOn x) sid (ackOn x) (oldestIn (sized size) i x storage) o
+pub record Reads (lim : Limits) (i : ℕ) (storage : List ℕ) (x : Session) (sid : ℕ) (o : Out) : Type 0 where
+  pub done : Done lim i storage (readOn x) sid (ackOn x) (oldestIn lim i x storage) o
   pub long : oldestLength x ≡ length (handed (o .pay))
 
 -- the test of 9, in the half's order
 in-turn : (a b c : Bool) → a || (b || c) ≡ (a || c) || b
 in-turn a b c = ap (λ (d : Bool). a || d) (or-comm b c) ∙ sym (or-assoc a c b)
 
-module _ {size i : ℕ} {storage : List ℕ} {x : Session} {sid : ℕ} {B : Body} where
-  module _ {st : St} (a : Stands size i storage x sid st B) where
+module _ {lim : Limits} {i : ℕ} {storage : List ℕ} {x : Session} {sid : ℕ} {B : Body} where
+  module _ {st : St} (a : Stands lim i storage x sid st B) where
     -- G after the read
     later-g : (p : Bytes) (u : List Bytes) → plus (x .g) 1 ≡ gOf (later B p u) % 2 ^ 32
     later-g p u = rw (a .g) (plus-counts (gOf B) 1 ∙ ap (λ (n : ℕ). n % 2 ^ 32) (omega (arith, length-append (B .got) (p ∷ []))))
@@ -128,16 +129,16 @@ module _ {size i : ℕ} {storage : List ℕ} {x : Session} {sid : ℕ} {B : Body
     -- where p is the oldest unread payload
     module _ (p : Bytes) (u : List Bytes) (e : B .unread ≡ p ∷ u) where
       -- its length stands in the record, its bytes in the storage
-      oldest-holds : Lies size i storage (x .lens) (oldest x) p
+      oldest-holds : Lies lim i storage (x .lens) (oldest x) p
       oldest-holds =
           lies-place (oldest x) (length (B .got) + 1 + 0) oldest-place
-          (subst (λ (q : Bytes). Lies size i storage (x .lens) (length (B .got) + 1 + 0) q) (ap (λ (l : List Bytes). getD l 0 []) e)
+          (subst (λ (q : Bytes). Lies lim i storage (x .lens) (length (B .got) + 1 + 0) q) (ap (λ (l : List Bytes). getD l 0 []) e)
           (a .ring 0 (omega (arith, ap length e))))
 
-      oldest-bytes : oldestIn (sized size) i x storage ≡ p
-      oldest-bytes = ap (λ (n : ℕ). take n (drop (placeStart size i (oldest x)) storage)) (oldest-holds .long) ∙ oldest-holds .bytes
+      oldest-bytes : oldestIn lim i x storage ≡ p
+      oldest-bytes = ap (λ (n : ℕ). take n (drop (placeStart (lim .place) i (oldest x)) storage)) (oldest-holds .long) ∙ oldest-holds .bytes
 
-      read-stands : Stands size i storage (readOn x) sid st (later B p u)
+      read-stands : Stands lim i storage (readOn x) sid st (later B p u)
       read-stands = record {
         sid = a .sid;
         state = a .state;
@@ -150,11 +151,11 @@ module _ {size i : ℕ} {storage : List ℕ} {x : Session} {sid : ℕ} {B : Body
         ring = ring;
       }
         where
-          ring : (j : ℕ) → j < length u → Lies size i storage (x .lens) (length (B .got ++ (p ∷ [])) + 1 + j) (getD u j [])
+          ring : (j : ℕ) → j < length u → Lies lim i storage (x .lens) (length (B .got ++ (p ∷ [])) + 1 + j) (getD u j [])
           ring j h =
               let n : length (B .got) + 1 + suc j ≡ length (B .got ++ (p ∷ [])) + 1 + j = omega (arith, length-append (B .got) (p ∷ [])) in
-              subst (λ (k : ℕ). Lies size i storage (x .lens) k (getD u j [])) n
-              (subst (λ (q : Bytes). Lies size i storage (x .lens) (length (B .got) + 1 + suc j) q) (ap (λ (l : List Bytes). getD l (suc j) []) e)
+              subst (λ (k : ℕ). Lies lim i storage (x .lens) k (getD u j [])) n
+              (subst (λ (q : Bytes). Lies lim i storage (x .lens) (length (B .got) + 1 + suc j) q) (ap (λ (l : List Bytes). getD l (suc j) []) e)
               (a .ring (suc j) (omega (arith, ap length e))))
 
       -- 9's test goes by the payload's length
@@ -180,8 +181,8 @@ module _ {size i : ℕ} {storage : List ℕ} {x : Session} {sid : ℕ} {B : Body
     emits : ackOn x ≡ if (established (stateOf st)) (headerBytes (ackHeader x)) []
     emits = ap (λ (t : State). if (established t) (headerBytes (ackHeader x)) []) (a .state)
 
-  read-est : (R : Room) → Ranges B → Stands size i storage x sid est B → (l : List Bytes) → B .unread ≡ l
-      → Does (Reads size i storage x sid) est B (readCases x (R .pay) (R .buf) (R .short)) (readE l R B)
+  read-est : (R : Room) → Ranges B → Stands lim i storage x sid est B → (l : List Bytes) → B .unread ≡ l
+      → Does (Reads lim i storage x sid) est B (readCases x (R .pay) (R .buf) (R .short)) (readE l R B)
   read-est R b a [] e = does-skip (ap finSent (a .state)) (does-stop (eight a ∙ no-unread a b refl refl e) (omega arith))
   read-est R b a (p ∷ u) e =
       does-skip (ap finSent (a .state))
@@ -200,8 +201,8 @@ module _ {size i : ℕ} {storage : List ℕ} {x : Session} {sid : ℕ} {B : Body
           ∙ ap headerBytes (header-counts Ack headerLength (a .sid) (a .s) (later-g a p u))
           ∙ sym (append-nil (headerBytes (headerFor sid (ack (sOf B) (gOf (later B p u))))))
 
-  read-fr : (R : Room) → Ranges B → Stands size i storage x sid fr B → (l : List Bytes) → B .unread ≡ l
-      → Does (Reads size i storage x sid) fr B (readCases x (R .pay) (R .buf) (R .short)) (readR l R B)
+  read-fr : (R : Room) → Ranges B → Stands lim i storage x sid fr B → (l : List Bytes) → B .unread ≡ l
+      → Does (Reads lim i storage x sid) fr B (readCases x (R .pay) (R .buf) (R .short)) (readR l R B)
   read-fr R b a [] e =
       does-skip (ap finSent (a .state)) (does-skip (eight a) (does-stop (eleven a ∙ no-unread a b refl refl e) (omega arith)))
   read-fr R b a (p ∷ u) e =
@@ -214,8 +215,8 @@ module _ {size i : ℕ} {storage : List ℕ} {x : Session} {sid : ℕ} {B : Body
         long = oldest-holds a p u e .long;
       })))))
 
-  pub read-does : (s : St) → Stands size i storage x sid s B → Ranges B → inUse (stateOf s) ≡ true → (R : Room)
-      → Does (Reads size i storage x sid) s B (readCases x (R .pay) (R .buf) (R .short)) (read R s B)
+  pub read-does : (s : St) → Stands lim i storage x sid s B → Ranges B → inUse (stateOf s) ≡ true → (R : Room)
+      → Does (Reads lim i storage x sid) s B (readCases x (R .pay) (R .buf) (R .short)) (read R s B)
   read-does est a b u R = read-est R b a (B .unread) refl
   read-does fr a b u R = read-fr R b a (B .unread) refl
   read-does fs a b u R = does-stop (ap finSent (a .state)) (omega arith)

@@ -8,18 +8,19 @@ use mathlib.Core.List.{List, [], _∷_}
 use Rattle.cases.specs.Cases.{Case, _⇒_, first}
 use Rattle.session.specs.declared.record.Session.{Session}
 use Rattle.session.specs.Record.{inUse, free}
+use Rattle.table.specs.Limits.{Limits}
 use Rattle.pair.proofs.Lane.Half.{St, gone, Body, Out, refuse, unless}
 use Rattle.pair.proofs.Bytes.Encoded.{emitted, handed}
 use Rattle.pair.proofs.Record.Stands.{stateOf, Stands}
 
 -- the record after a step of its half: it stands for what became of the half, or the half is gone and the slot is free
-pub data After (size i : ℕ) (storage : List ℕ) (y : Session) (sid : ℕ) (st : St) (B : Body) : Type 0 where
-  stands : inUse (stateOf st) ≡ true → Stands size i storage y sid st B → After size i storage y sid st B
-  freed : st ≡ gone → y ≡ free → After size i storage y sid st B
+pub data After (lim : Limits) (i : ℕ) (storage : List ℕ) (y : Session) (sid : ℕ) (st : St) (B : Body) : Type 0 where
+  stands : inUse (stateOf st) ≡ true → Stands lim i storage y sid st B → After lim i storage y sid st B
+  freed : st ≡ gone → y ≡ free → After lim i storage y sid st B
 
 -- the record y, the packet and the payload that a call makes are those of the half's step
-pub record Done (size i : ℕ) (storage : List ℕ) (y : Session) (sid : ℕ) (sent read : List ℕ) (o : Out) : Type 0 where
-  pub after : After size i storage y sid (o .st) (o .body)
+pub record Done (lim : Limits) (i : ℕ) (storage : List ℕ) (y : Session) (sid : ℕ) (sent read : List ℕ) (o : Out) : Type 0 where
+  pub after : After lim i storage y sid (o .st) (o .body)
   pub packet : sent ≡ emitted sid (o .emit)
   pub payload : read ≡ handed (o .pay)
 

@@ -18,6 +18,7 @@ use Rattle.session.specs.Well.{InOrder}
 use Rattle.session.specs.Changes.{withState}
 use Rattle.session.proofs.Wrap.{minus-counts, plus-counts}
 use Rattle.table.specs.Storage.{placeStart}
+use Rattle.table.specs.Limits.{Limits}
 use Rattle.pair.proofs.Lane.Half.{Bytes, St, est, fs, fr, gone, Body, sOf, gOf, rOf, fresh}
 use Rattle.pair.proofs.Lane.Inv.{Ranges}
 use Rattle.pair.proofs.Lane.World.{live}
@@ -58,12 +59,12 @@ used-live fr u = tt
 used-live gone u = never u
 
 -- the payload p lies in the place of SEQNUM q in slot i: its length stands in the record, its bytes in the storage
-pub record Lies (size i : ℕ) (storage lens : List ℕ) (q : ℕ) (p : Bytes) : Type 0 where
+pub record Lies (lim : Limits) (i : ℕ) (storage lens : List ℕ) (q : ℕ) (p : Bytes) : Type 0 where
   pub long : getD lens (place q) 0 ≡ length p
-  pub bytes : take (length p) (drop (placeStart size i q) storage) ≡ p
+  pub bytes : take (length p) (drop (placeStart (lim .place) i q) storage) ≡ p
 
--- the record x of slot i, where a place has `size` bytes, stands under the SID `name` for the half st, B
-pub record Stands (size i : ℕ) (storage : List ℕ) (x : Session) (name : ℕ) (st : St) (B : Body) : Type 0 where
+-- the record x of slot i stands under the SID `name` for the half st, B
+pub record Stands (lim : Limits) (i : ℕ) (storage : List ℕ) (x : Session) (name : ℕ) (st : St) (B : Body) : Type 0 where
   pub sid : x .sid ≡ name
   pub state : x .state ≡ stateOf st
   pub s : x .s ≡ sOf B % 2 ^ 32
@@ -71,25 +72,26 @@ pub record Stands (size i : ℕ) (storage : List ℕ) (x : Session) (name : ℕ)
   pub r : x .r ≡ rOf B % 2 ^ 32
   pub g : x .g ≡ gOf B % 2 ^ 32
   pub four : length (x .lens) ≡ 4
-  pub small : (k : ℕ) → k < 4 → getD (x .lens) k 0 ≤ size
-  pub ring : (j : ℕ) → j < length (B .unread) → Lies size i storage (x .lens) (length (B .got) + 1 + j) (getD (B .unread) j [])
+  pub small : (k : ℕ) → k < 4 → getD (x .lens) k 0 ≤ lim .place
+  pub ring : (j : ℕ) → j < length (B .unread) → Lies lim i storage (x .lens) (length (B .got) + 1 + j) (getD (B .unread) j [])
 
 -- a place goes by its SEQNUM modulo 4
-pub lies-place : {size i : ℕ} {storage lens : List ℕ} (q q' : ℕ) {p : Bytes} → place q ≡ place q' → Lies size i storage lens q' p → Lies size i storage lens q p
-lies-place {size} {i} {storage} {lens} q q' {p} e a = record {
+pub lies-place : {lim : Limits} {i : ℕ} {storage lens : List ℕ} (q q' : ℕ) {p : Bytes} → place q ≡ place q' → Lies lim i storage lens q' p
+    → Lies lim i storage lens q p
+lies-place {lim} {i} {storage} {lens} q q' {p} e a = record {
   long = ap (λ (k : ℕ). getD lens k 0) e ∙ a .long;
-  bytes = ap (λ (k : ℕ). take (length p) (drop (4 * size * i + size * k) storage)) e ∙ a .bytes;
+  bytes = ap (λ (k : ℕ). take (length p) (drop (4 * lim .place * i + lim .place * k) storage)) e ∙ a .bytes;
 }
 
 -- an unread payload is no longer than its place
-pub unread-bound : {size i : ℕ} {storage : List ℕ} {x : Session} {sid : ℕ} {st : St} {B : Body} → Stands size i storage x sid st B
-    → (j : ℕ) → j < length (B .unread) → length (getD (B .unread) j []) ≤ size
+pub unread-bound : {lim : Limits} {i : ℕ} {storage : List ℕ} {x : Session} {sid : ℕ} {st : St} {B : Body} → Stands lim i storage x sid st B
+    → (j : ℕ) → j < length (B .unread) → length (getD (B .unread) j []) ≤ lim .place
 unread-bound {B = B} a j h = omega (arith, a .ring j h .long, a .small (place (length (B .got) + 1 + j)) (mod-lt (length (B .got) + 1 + j) (omega arith)))
 
 -- ---- a fresh record
 
-pub fresh-stands : (size i : ℕ) (storage : List ℕ) (sid : ℕ) → Stands size i storage (freshOf sid) sid est fresh
-fresh-stands size i storage sid = record {
+pub fresh-stands : (lim : Limits) (i : ℕ) (storage : List ℕ) (sid : ℕ) → Stands lim i storage (freshOf sid) sid est fresh
+fresh-stands lim i storage sid = record {
   sid = refl;
   state = refl;
   s = refl;
@@ -103,8 +105,8 @@ fresh-stands size i storage sid = record {
 
 -- ---- only the state changes
 
-pub turned-stands : {size i : ℕ} {storage : List ℕ} {x : Session} {sid : ℕ} {st : St} {B : Body} (t : St) → Stands size i storage x sid st B
-    → Stands size i storage (withState (stateOf t) x) sid t B
+pub turned-stands : {lim : Limits} {i : ℕ} {storage : List ℕ} {x : Session} {sid : ℕ} {st : St} {B : Body} (t : St) → Stands lim i storage x sid st B
+    → Stands lim i storage (withState (stateOf t) x) sid t B
 turned-stands t a = record {
   sid = a .sid;
   state = refl;
@@ -119,11 +121,11 @@ turned-stands t a = record {
 
 -- ---- in use, and its counters' differences over numbers that don't wrap
 
-pub stands-used : {size i : ℕ} {storage : List ℕ} {x : Session} {sid : ℕ} {st : St} {B : Body} → Stands size i storage x sid st B
+pub stands-used : {lim : Limits} {i : ℕ} {storage : List ℕ} {x : Session} {sid : ℕ} {st : St} {B : Body} → Stands lim i storage x sid st B
     → inUse (stateOf st) ≡ true → inUse (x .state) ≡ true
 stands-used a u = ap inUse (a .state) ∙ u
 
-module _ {size i : ℕ} {storage : List ℕ} {x : Session} {sid : ℕ} {st : St} {B : Body} (a : Stands size i storage x sid st B) (b : Ranges B) where
+module _ {lim : Limits} {i : ℕ} {storage : List ℕ} {x : Session} {sid : ℕ} {st : St} {B : Body} (a : Stands lim i storage x sid st B) (b : Ranges B) where
   -- what the peer still lets us send
   pub window-counts : minus (x .h) (x .s) ≡ B .high - sOf B
   window-counts = rw (a .h, a .s) (minus-counts (sOf B) (B .high) (b .fit) (omega (arith, b .high)))
@@ -149,8 +151,8 @@ module _ {size i : ℕ} {storage : List ℕ} {x : Session} {sid : ℕ} {st : St}
       by gone f u = never u
 
   -- it is in order
-  pub stands-order : inUse (stateOf st) ≡ true → InOrder window size x
-  stands-order u = record {
+  pub stands-order : window ≤ lim .window → inUse (stateOf st) ≡ true → InOrder (lim .window) (lim .place) x
+  stands-order wide u = record {
     used = λ _. record { send = omega (arith, window-counts, b .high); receive = omega (arith, room-counts); lengths = a .small };
     free = λ e. never (sym e ∙ stands-used a u);
   }

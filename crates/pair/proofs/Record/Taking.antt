@@ -29,12 +29,12 @@ use Rattle.effect.specs.Taken.{windowInRange, seqnumInRange, isData, cellOf, be
 use Rattle.session.specs.Changes.{storedOn, grantedOn}
 use Rattle.session.proofs.Wrap.{minus-counts, plus-counts, place-counts, same-counts}
 use Rattle.table.specs.Storage.{storageLength, placeStart}
+use Rattle.table.specs.Limits.{Limits}
 use Rattle.judge.specs.Number.{otherCases}
 use Rattle.take.specs.Take.{takenOn, kept}
 use Rattle.pair.proofs.Lane.Half.{Bytes, St, est, fs, fr, gone, Packet, dat, ack, fin, Body, sOf, gOf, rOf, Out, winOk, nextOk, seqOk, checked, plain}
 use Rattle.pair.proofs.Lane.Half.{stored, raised, take, seqnumOf, wndwOf}
 use Rattle.pair.proofs.Lane.Inv.{Ranges}
-use Rattle.pair.specs.World.{sized}
 use Rattle.pair.proofs.Bytes.Encoded.{kindOf, payloadOf, headerFor, packetFor, packet-size}
 use Rattle.pair.proofs.Record.Stands.{stateOf, Stands, turned-stands, window-counts, room-counts, Lies, lies-place, unread-bound}
 use Rattle.pair.proofs.Record.Places.{Lent, lies-stored, lies-kept}
@@ -69,11 +69,11 @@ next-is B q b p =
 
 -- ---- the record's two ranges pass where the half's do
 
-module _ {size i : ℕ} {storage : List ℕ} {x : Session} {sid : ℕ} {B : Body} where
-  module _ {s : St} (a : Stands size i storage x sid s B) (b : Ranges B) where
-    wndw-passes : (v : ℕ) → winOk B v ≡ true → windowInRange window x (v % 2 ^ 32) ≡ true
+module _ {lim : Limits} {i : ℕ} {storage : List ℕ} {x : Session} {sid : ℕ} {B : Body} where
+  module _ {s : St} (a : Stands lim i storage x sid s B) (b : Ranges B) where
+    wndw-passes : window ≤ lim .window → (v : ℕ) → winOk B v ≡ true → windowInRange (lim .window) x (v % 2 ^ 32) ≡ true
     unfolding windowInRange
-    wndw-passes v p =
+    wndw-passes wide v p =
         let both = and-split (leb (B .high) v) (leb v (sOf B + 4)) p in
         let low : B .high ≤ v = leb-true (B .high) v (both .0) in
         let top : v ≤ sOf B + 4 = leb-true v (sOf B + 4) (both .1) in
@@ -81,7 +81,7 @@ module _ {size i : ℕ} {storage : List ℕ} {x : Session} {sid : ℕ} {B : Body
         let new : minus (v % 2 ^ 32) (x .s) ≡ v - sOf B = rw (a .s) (minus-counts (sOf B) v (omega (arith, b .fit)) (omega arith)) in
         and-both _ _
         (le-leb (minus (x .h) (x .s)) (minus (v % 2 ^ 32) (x .s)) (omega arith))
-        (le-leb (minus (v % 2 ^ 32) (x .s)) window (omega arith))
+        (le-leb (minus (v % 2 ^ 32) (x .s)) (lim .window) (omega arith))
 
     seqnum-passes : (k : Kind) (q : ℕ) → isData k && established (stateOf s) ≡ false → seqOk B q ≡ true → seqnumInRange x k (q % 2 ^ 32) ≡ true
     unfolding seqnumInRange
@@ -96,11 +96,11 @@ module _ {size i : ℕ} {storage : List ℕ} {x : Session} {sid : ℕ} {B : Body
         ∙ le-leb (minus (q % 2 ^ 32) (x .r)) (minus (x .g) (x .r)) (omega arith)
 
     -- the number, for a packet of any kind in range
-    number : (k : Kind) (h : Header) → finReceived (stateOf s) ≡ false → windowInRange window x (h .wndw) ≡ true → seqnumInRange x k (h .seqnum) ≡ true
-        → first (otherCases (sized size) k true x h) ≡ 0
+    number : (k : Kind) (h : Header) → finReceived (stateOf s) ≡ false → windowInRange (lim .window) x (h .wndw) ≡ true → seqnumInRange x k (h .seqnum) ≡ true
+        → first (otherCases lim k true x h) ≡ 0
     number k h f w q = says (skip refl (skip (ap finReceived (a .state) ∙ f) (skip (true-not _ w) (skip (true-not _ q) nothing))))
 
-  data-passes : Stands size i storage x sid est B → Ranges B → (q : ℕ) → Next B q → seqnumInRange x Data (q % 2 ^ 32) ≡ true
+  data-passes : Stands lim i storage x sid est B → Ranges B → (q : ℕ) → Next B q → seqnumInRange x Data (q % 2 ^ 32) ≡ true
   unfolding seqnumInRange
   data-passes a b q n =
       let next : q % 2 ^ 32 ≡ plus (x .r) 1 = rw (a .r, n .next, plus-counts (rOf B) 1) (ap (λ (m : ℕ). m % 2 ^ 32) (omega arith)) in
@@ -111,26 +111,26 @@ module _ {size i : ℕ} {storage : List ℕ} {x : Session} {sid : ℕ} {B : Body
       ∙ and-both (eqb (q % 2 ^ 32) (plus (x .r) 1)) (not (eqb (x .r) (x .g))) (eq-eqb (q % 2 ^ 32) (plus (x .r) 1) next) (false-not (eqb (x .r) (x .g)) room)
 
   -- all but DATA in ESTABLISHED
-  ranged-number : {s : St} (pk : Packet) (o : Out) → Stands size i storage x sid s B → Ranges B → finReceived (stateOf s) ≡ false
+  ranged-number : window ≤ lim .window → {s : St} (pk : Packet) (o : Out) → Stands lim i storage x sid s B → Ranges B → finReceived (stateOf s) ≡ false
       → isData (kindOf pk) && established (stateOf s) ≡ false → checked (winOk B (wndwOf pk)) (seqOk B (seqnumOf pk)) B o .ans ≡ 0
-      → first (otherCases (sized size) (kindOf pk) true x (headerFor sid pk)) ≡ 0
-  ranged-number pk o a b f d z =
+      → first (otherCases lim (kindOf pk) true x (headerFor sid pk)) ≡ 0
+  ranged-number wide pk o a b f d z =
       let c = passed (winOk B (wndwOf pk)) (seqOk B (seqnumOf pk)) B o z in
-      number a b (kindOf pk) (headerFor sid pk) f (wndw-passes a b (wndwOf pk) (c .0)) (seqnum-passes a b (kindOf pk) (seqnumOf pk) d (c .1))
+      number a b (kindOf pk) (headerFor sid pk) f (wndw-passes a b wide (wndwOf pk) (c .0)) (seqnum-passes a b (kindOf pk) (seqnumOf pk) d (c .1))
 
   -- a packet that the half takes, the record takes
-  pub take-number : (s : St) (pk : Packet) → Stands size i storage x sid s B → Ranges B → take s pk B .ans ≡ 0
-      → first (otherCases (sized size) (kindOf pk) true x (headerFor sid pk)) ≡ 0
-  take-number est (dat q v p) a b z =
+  pub take-number : window ≤ lim .window → (s : St) (pk : Packet) → Stands lim i storage x sid s B → Ranges B → take s pk B .ans ≡ 0
+      → first (otherCases lim (kindOf pk) true x (headerFor sid pk)) ≡ 0
+  take-number wide est (dat q v p) a b z =
       let c = passed (winOk B v) (nextOk B q) B (plain est (stored B v p)) z in
-      number a b Data (headerFor sid (dat q v p)) refl (wndw-passes a b v (c .0)) (data-passes a b q (next-is B q b (c .1)))
-  take-number est (ack q v) a b z = ranged-number (ack q v) (plain est (raised B v)) a b refl refl z
-  take-number est (fin q v) a b z = ranged-number (fin q v) (plain fr (raised B v)) a b refl refl z
-  take-number fs (dat q v p) a b z = ranged-number (dat q v p) (plain fs B) a b refl refl z
-  take-number fs (ack q v) a b z = ranged-number (ack q v) (plain fs B) a b refl refl z
-  take-number fs (fin q v) a b z = ranged-number (fin q v) (plain gone B) a b refl refl z
-  take-number fr pk a b z = absurd (omega arith)
-  take-number gone pk a b z = absurd (omega arith)
+      number a b Data (headerFor sid (dat q v p)) refl (wndw-passes a b wide v (c .0)) (data-passes a b q (next-is B q b (c .1)))
+  take-number wide est (ack q v) a b z = ranged-number wide (ack q v) (plain est (raised B v)) a b refl refl z
+  take-number wide est (fin q v) a b z = ranged-number wide (fin q v) (plain fr (raised B v)) a b refl refl z
+  take-number wide fs (dat q v p) a b z = ranged-number wide (dat q v p) (plain fs B) a b refl refl z
+  take-number wide fs (ack q v) a b z = ranged-number wide (ack q v) (plain fs B) a b refl refl z
+  take-number wide fs (fin q v) a b z = ranged-number wide (fin q v) (plain gone B) a b refl refl z
+  take-number wide fr pk a b z = absurd (omega arith)
+  take-number wide gone pk a b z = absurd (omega arith)
 
 -- ---- what becomes of the record stands for what becomes of the half
 
@@ -139,13 +139,13 @@ places-differ : (got n j : ℕ) → j < n → n < 4 → place (got + 1 + j) ≢ 
 places-differ got n j l h = omega arith
 
 -- the record and the storage after a packet, by the cell of a state, stand for what became of the half
-abbrev Makes : ℕ → ℕ → List ℕ → Session → ℕ → Packet → State → Out → Type 0
-Makes size i storage x sid pk t o =
-    After size i (kept (sized size) (cellOf t (kindOf pk)) i (headerFor sid pk) (packetFor sid pk) storage)
+abbrev Makes : Limits → ℕ → List ℕ → Session → ℕ → Packet → State → Out → Type 0
+Makes lim i storage x sid pk t o =
+    After lim i (kept lim (cellOf t (kindOf pk)) i (headerFor sid pk) (packetFor sid pk) storage)
     (becomes (cellOf t (kindOf pk)) (seqnumOf pk % 2 ^ 32) (wndwOf pk % 2 ^ 32) (headerLength + length (payloadOf pk) - headerLength) x) sid (o .st) (o .body)
 
-module _ {size i : ℕ} {storage : List ℕ} {x : Session} {sid : ℕ} {B : Body} where
-  raised-stands : Stands size i storage x sid est B → (v : ℕ) → Stands size i storage (grantedOn (v % 2 ^ 32) x) sid est (raised B v)
+module _ {lim : Limits} {i : ℕ} {storage : List ℕ} {x : Session} {sid : ℕ} {B : Body} where
+  raised-stands : Stands lim i storage x sid est B → (v : ℕ) → Stands lim i storage (grantedOn (v % 2 ^ 32) x) sid est (raised B v)
   raised-stands a v = record {
     sid = a .sid;
     state = a .state;
@@ -159,9 +159,10 @@ module _ {size i : ℕ} {storage : List ℕ} {x : Session} {sid : ℕ} {B : Body
   }
 
   -- a payload p of n bytes, at the front of b, stored at the place of the next SEQNUM
-  stored-stands : Stands size i storage x sid est B → (q v : ℕ) (p : Bytes) → Next B q → (slots : ℕ) → i < slots → storageLength size slots ≤ length storage
-      → (b : List ℕ) (n : ℕ) → n ≡ length p → n ≤ size → n ≤ length b → list.take n b ≡ p
-      → Stands size i (paste storage (placeStart size i (q % 2 ^ 32)) b n) (storedOn (q % 2 ^ 32) (v % 2 ^ 32) n x) sid est (stored B v p)
+  stored-stands : Stands lim i storage x sid est B → (q v : ℕ) (p : Bytes) → Next B q → (slots : ℕ) → i < slots
+      → storageLength (lim .place) slots ≤ length storage
+      → (b : List ℕ) (n : ℕ) → n ≡ length p → n ≤ lim .place → n ≤ length b → list.take n b ≡ p
+      → Stands lim i (paste storage (placeStart (lim .place) i (q % 2 ^ 32)) b n) (storedOn (q % 2 ^ 32) (v % 2 ^ 32) n x) sid est (stored B v p)
   stored-stands a q v p nx slots slot long b n e limit enough f = record {
     sid = a .sid;
     state = a .state;
@@ -178,31 +179,32 @@ module _ {size i : ℕ} {storage : List ℕ} {x : Session} {sid : ℕ} {B : Body
       w : ℕ
       w = q % 2 ^ 32
 
-      small : (k : ℕ) → k < 4 → getD (set (x .lens) (place w) n) k 0 ≤ size
+      small : (k : ℕ) → k < 4 → getD (set (x .lens) (place w) n) k 0 ≤ lim .place
       small k h = by (eqb k (place w)) refl
         where
-          by : (t : Bool) → eqb k (place w) ≡ t → getD (set (x .lens) (place w) n) k 0 ≤ size
+          by : (t : Bool) → eqb k (place w) ≡ t → getD (set (x .lens) (place w) n) k 0 ≤ lim .place
           by true t = rw (eqb-true k (place w) t, getD-set-same (x .lens) (place w) n 0 (omega (arith, a .four))) limit
           by false t = rw (getD-set-other (x .lens) (place w) k n 0 (eqb-false k (place w) t)) (a .small k h)
 
       ring : (j : ℕ) → j < length (B .unread ++ (p ∷ [])) → Dec (j < length (B .unread))
-          → Lies size i (paste storage (placeStart size i w) b n) (set (x .lens) (place w) n) (length (B .got) + 1 + j) (getD (B .unread ++ (p ∷ [])) j [])
+          → Lies lim i (paste storage (placeStart (lim .place) i w) b n) (set (x .lens) (place w) n) (length (B .got) + 1 + j)
+          (getD (B .unread ++ (p ∷ [])) j [])
       ring j h (yes l) =
           let d : place (length (B .got) + 1 + j) ≢ place (suc (rOf B)) = places-differ (length (B .got)) (length (B .unread)) j l (omega (arith, nx .room)) in
           rw (List·getD-append (B .unread) (p ∷ []) [] j l)
-          (lies-kept size slots i w storage b n slot long limit enough (length (B .got) + 1 + j) (getD (B .unread) j []) (x .lens)
+          (lies-kept lim slots i w storage b n slot long limit enough (length (B .got) + 1 + j) (getD (B .unread) j []) (x .lens)
           (λ m. d (m ∙ place-counts q ∙ ap place (nx .next))) (unread-bound a j l) (a .ring j l))
       ring j h (no l) =
           let last : j ≡ length (B .unread) = omega (arith, length-append (B .unread) (p ∷ [])) in
           let here : getD (B .unread ++ (p ∷ [])) j [] ≡ p = rw last (getD-append-seam (B .unread) p [] []) in
           rw here
           (lies-place (length (B .got) + 1 + j) w (ap place (omega (arith, nx .next)) ∙ sym (place-counts q))
-          (lies-stored size slots i w storage b n slot long limit enough p (x .lens) (a .four) e f))
+          (lies-stored lim slots i w storage b n slot long limit enough p (x .lens) (a .four) e f))
 
   -- DATA in ESTABLISHED, as its bytes come
-  stored-taken : Stands size i storage x sid est B → (q v : ℕ) (p : Bytes) {slots : ℕ}
-      → Lent size slots i (headerFor sid (dat q v p)) (packetFor sid (dat q v p)) storage → Next B q
-      → Makes size i storage x sid (dat q v p) Established (plain est (stored B v p))
+  stored-taken : Stands lim i storage x sid est B → (q v : ℕ) (p : Bytes) {slots : ℕ}
+      → Lent lim slots i (headerFor sid (dat q v p)) (packetFor sid (dat q v p)) storage → Next B q
+      → Makes lim i storage x sid (dat q v p) Established (plain est (stored B v p))
   stored-taken a q v p {slots} l nx =
       let h : Header = headerFor sid (dat q v p) in
       let b : List ℕ = drop headerLength (packetFor sid (dat q v p)) in
@@ -212,29 +214,29 @@ module _ {size i : ℕ} {storage : List ℕ} {x : Session} {sid : ℕ} {B : Body
       (ap (λ (m : ℕ). list.take m b) n ∙ ap (list.take (length p)) front ∙ take-length p))
 
   -- a packet that the half takes makes of the record what it makes of the half
-  pub take-after : (s : St) (pk : Packet) {slots : ℕ} → Stands size i storage x sid s B → Ranges B → take s pk B .ans ≡ 0
-      → Lent size slots i (headerFor sid pk) (packetFor sid pk) storage
-      → After size i (kept (sized size) (cellOf (x .state) (kindOf pk)) i (headerFor sid pk) (packetFor sid pk) storage)
+  pub take-after : (s : St) (pk : Packet) {slots : ℕ} → Stands lim i storage x sid s B → Ranges B → take s pk B .ans ≡ 0
+      → Lent lim slots i (headerFor sid pk) (packetFor sid pk) storage
+      → After lim i (kept lim (cellOf (x .state) (kindOf pk)) i (headerFor sid pk) (packetFor sid pk) storage)
       (takenOn (kindOf pk) (headerFor sid pk) x) sid (take s pk B .st) (take s pk B .body)
-  take-after s pk {slots} a b z l = subst (λ (t : State). Makes size i storage x sid pk t (take s pk B)) (sym (a .state)) (by s pk a z l)
+  take-after s pk {slots} a b z l = subst (λ (t : State). Makes lim i storage x sid pk t (take s pk B)) (sym (a .state)) (by s pk a z l)
     where
-      by : (s : St) (pk : Packet) → Stands size i storage x sid s B → take s pk B .ans ≡ 0
-          → Lent size slots i (headerFor sid pk) (packetFor sid pk) storage → Makes size i storage x sid pk (stateOf s) (take s pk B)
+      by : (s : St) (pk : Packet) → Stands lim i storage x sid s B → take s pk B .ans ≡ 0
+          → Lent lim slots i (headerFor sid pk) (packetFor sid pk) storage → Makes lim i storage x sid pk (stateOf s) (take s pk B)
       by est (dat q v p) a z l =
-          after-checks (Makes size i storage x sid (dat q v p) Established) (winOk B v) (nextOk B q) B (plain est (stored B v p)) z
+          after-checks (Makes lim i storage x sid (dat q v p) Established) (winOk B v) (nextOk B q) B (plain est (stored B v p)) z
           (stored-taken a q v p l (next-is B q b (passed (winOk B v) (nextOk B q) B (plain est (stored B v p)) z .1)))
       by est (ack q v) a z l =
-          after-checks (Makes size i storage x sid (ack q v) Established) (winOk B v) (seqOk B q) B (plain est (raised B v)) z (stands refl (raised-stands a v))
+          after-checks (Makes lim i storage x sid (ack q v) Established) (winOk B v) (seqOk B q) B (plain est (raised B v)) z (stands refl (raised-stands a v))
       by est (fin q v) a z l =
-          after-checks (Makes size i storage x sid (fin q v) Established) (winOk B v) (seqOk B q) B (plain fr (raised B v)) z
+          after-checks (Makes lim i storage x sid (fin q v) Established) (winOk B v) (seqOk B q) B (plain fr (raised B v)) z
           (stands refl (turned-stands fr (raised-stands a v)))
-      by fs (dat q v p) a z l = after-checks (Makes size i storage x sid (dat q v p) FinSent) (winOk B v) (seqOk B q) B (plain fs B) z (stands refl a)
-      by fs (ack q v) a z l = after-checks (Makes size i storage x sid (ack q v) FinSent) (winOk B v) (seqOk B q) B (plain fs B) z (stands refl a)
-      by fs (fin q v) a z l = after-checks (Makes size i storage x sid (fin q v) FinSent) (winOk B v) (seqOk B q) B (plain gone B) z (freed refl refl)
+      by fs (dat q v p) a z l = after-checks (Makes lim i storage x sid (dat q v p) FinSent) (winOk B v) (seqOk B q) B (plain fs B) z (stands refl a)
+      by fs (ack q v) a z l = after-checks (Makes lim i storage x sid (ack q v) FinSent) (winOk B v) (seqOk B q) B (plain fs B) z (stands refl a)
+      by fs (fin q v) a z l = after-checks (Makes lim i storage x sid (fin q v) FinSent) (winOk B v) (seqOk B q) B (plain gone B) z (freed refl refl)
       by fr pk a z l = absurd (omega arith)
       by gone pk a z l = absurd (omega arith)
 
 -- the bytes of a packet are lent whole, where its payload is within the limit
-pub packet-lent : {size slots i : ℕ} {storage : List ℕ} (sid : ℕ) (pk : Packet) → i < slots → storageLength size slots ≤ length storage
-    → length (payloadOf pk) ≤ size → Lent size slots i (headerFor sid pk) (packetFor sid pk) storage
+pub packet-lent : {lim : Limits} {slots i : ℕ} {storage : List ℕ} (sid : ℕ) (pk : Packet) → i < slots → storageLength (lim .place) slots ≤ length storage
+    → length (payloadOf pk) ≤ lim .place → Lent lim slots i (headerFor sid pk) (packetFor sid pk) storage
 packet-lent sid pk slot long limit = record { slot = slot; long = long; payload = omega arith; whole = omega (arith, packet-size sid pk) }

@@ -9,6 +9,7 @@ use Rattle.wire.specs.Packet.{headerBytes}
 use Rattle.wire.proofs.Headers.{header-length}
 use Rattle.session.specs.Changes.{closedOn}
 use Rattle.table.specs.End.{putOf}
+use Rattle.table.specs.Limits.{Limits}
 use Rattle.close.specs.declared.Closed.{Closed}
 use Rattle.close.specs.Close.{finHeader}
 use Rattle.pair.specs.Side.{Side}
@@ -18,7 +19,7 @@ use Rattle.pair.proofs.Lane.Lane.{half, stOf, shut, moved}
 use Rattle.pair.proofs.Lane.Tables.{has}
 use Rattle.pair.proofs.Lane.World.{World}
 use Rattle.pair.proofs.Lane.Acts.{turn}
-use Rattle.pair.specs.World.{Party, sized}
+use Rattle.pair.specs.World.{Party}
 use Rattle.pair.specs.Step as step
 use Rattle.pair.specs.Step.{Close, emitting, did}
 use Rattle.pair.specs.History.{Scene}
@@ -31,33 +32,33 @@ use Rattle.pair.proofs.Steps.Performs.{closeRoom, Acted}
 use Rattle.pair.proofs.Steps.OwnCall.{Outcome, outcome, acted-call}
 
 -- a FIN has no payload
-close-fits : (place : ℕ) (R : Room) (s : St) (B : Body) → FitsIn place (close R s B .emit)
-close-fits place R s B = close-all (λ (o : Out). FitsIn place (o .emit)) B R s (λ n a b. tt) (λ e. omega arith) (λ e. omega arith)
+close-fits : (lim : Limits) (R : Room) (s : St) (B : Body) → FitsIn lim (close R s B .emit)
+close-fits lim R s B = close-all (λ (o : Out). FitsIn lim (o .emit)) B R s (λ n a b. tt) (λ e. omega arith) (λ e. omega arith)
 
 -- what the call gives at its side, by its answer and its packet
 abbrev gives : Party → Closed → List ℕ → step.Done
 gives p r bytes = record { reply = emitting (r .number) 0 (r .length) bytes; end = r .end; storage = p .storage }
 
-close-outcome : {slots place : ℕ} {x : Scene} {W : World} (m : Mirror slots place x W) {k : Side} {n : ℕ} (t : T (has n (W .table k)))
+close-outcome : {slots : ℕ} {lim : Limits} {x : Scene} {W : World} (m : Mirror slots lim x W) {k : Side} {n : ℕ} (t : T (has n (W .table k)))
     (f : SlotFor slots (x .world k) (x .book .notes k) n) (room : ℕ)
-    → Outcome place (f .index) (x .world k) (W .sid n) (moved k (shut (closeRoom room)) (W .lanes n) .out)
-    (did (sized place) (Close (W .sid n) room) (x .world k))
-close-outcome {place = place} {x} {W} m {k} {n} t f room =
+    → Outcome lim (f .index) (x .world k) (W .sid n) (moved k (shut (closeRoom room)) (W .lanes n) .out)
+    (did lim (Close (W .sid n) room) (x .world k))
+close-outcome {lim = lim} {x} {W} m {k} {n} t f room =
     let p = x .world k in
     let s = slot p (f .index) in
-    let answer = close-answer (sized place) (p .end) (made-at m k) (m .at k .up) (W .sid n) (f .index) (lane-at m k n t f) room in
-    let packet = close-packet (sized place) (p .end) (made-at m k) (m .at k .up) (W .sid n) (f .index) (lane-at m k n t f) room in
+    let answer = close-answer lim (p .end) (made-at m k) (m .at k .up) (W .sid n) (f .index) (lane-at m k n t f) room in
+    let packet = close-packet lim (p .end) (made-at m k) (m .at k .up) (W .sid n) (f .index) (lane-at m k n t f) room in
     outcome (lane-stands m k n f) (lane-used m k n t) _ (close-does (stOf k (W .lanes n)) (lane-stands m k n f) (lane-used m k n t) (closeRoom room)) (λ d. d)
     (λ z d. ap₂ (gives p) (answer ∙ done-0 _ _ _ z) (packet ∙ done-0 _ _ _ z)
     ∙ ap (λ (l : ℕ). gives p (record { number = 0; length = l; end = putOf (f .index) (closedOn s) (p .end) }) (headerBytes (finHeader s)))
     (sym (header-length (finHeader s))))
     (λ h. ap₂ (gives p) (answer ∙ done-not _ _ _ h) (packet ∙ done-not _ _ _ h))
 
-pub acted-closing : {slots place : ℕ} {x : Scene} {W : World} → Mirror slots place x W → {k : Side} {n sid : ℕ} → Names W k n sid → (room : ℕ)
-    → Acted slots place x W (record { side = k; call = Close sid room }) (turn k n (shut (closeRoom room)))
-acted-closing {slots} {place} {x} {W} m {k} {n} a room =
+pub acted-closing : {slots : ℕ} {lim : Limits} {x : Scene} {W : World} → Mirror slots lim x W → {k : Side} {n sid : ℕ} → Names W k n sid → (room : ℕ)
+    → Acted slots lim x W (record { side = k; call = Close sid room }) (turn k n (shut (closeRoom room)))
+acted-closing {slots} {lim} {x} {W} m {k} {n} a room =
     let f = m .at k .found n (a .listed) in
-    subst (λ (sid : ℕ). Acted slots place x W (record { side = k; call = Close sid room }) (turn k n (shut (closeRoom room)))) (a .name)
+    subst (λ (sid : ℕ). Acted slots lim x W (record { side = k; call = Close sid room }) (turn k n (shut (closeRoom room)))) (a .name)
     (acted-call m (a .listed) f (Close (W .sid n) room) (shut (closeRoom room)) tt refl refl refl refl refl (named-is m k n (a .listed))
     (close-outcome m (a .listed) f room)
-    (close-fits place (closeRoom room) (stOf k (W .lanes n)) (half k (W .lanes n))))
+    (close-fits lim (closeRoom room) (stOf k (W .lanes n)) (half k (W .lanes n))))

@@ -16,6 +16,7 @@ use Rattle.effect.specs.Taken.{cellOf}
 use Rattle.table.specs.declared.end.End.{End}
 use Rattle.table.specs.Storage.{storageLength}
 use Rattle.table.specs.End.{putOf}
+use Rattle.table.specs.Limits.{Limits}
 use Rattle.calling.specs.Calling.{shortStorage}
 use Rattle.take.specs.Take.{takenOn, takeDone, takeOf, kept, takeStorage}
 use Rattle.pair.specs.Side.{Side}
@@ -27,7 +28,6 @@ use Rattle.pair.proofs.Lane.Tables.{has}
 use Rattle.pair.proofs.Lane.World.{Item, pkt, pick, World}
 use Rattle.pair.proofs.Lane.Acts.{turn}
 use Rattle.pair.proofs.Lane.Heads.{packet-toward, packet-zero, packet-held}
-use Rattle.pair.specs.World.{Sizes, sized}
 use Rattle.pair.specs.Step.{Take, Step, did, acted}
 use Rattle.pair.specs.Whose.{Marked, left, owners}
 use Rattle.pair.specs.History.{Scene, whoseIn}
@@ -44,8 +44,8 @@ use Rattle.pair.proofs.Mirror.OwnStep.{OwnStep}
 use Rattle.pair.proofs.Steps.Performs.{Given, Acted}
 use Rattle.pair.proofs.Steps.OwnCall.{acted-own}
 
-module _ {slots place : ℕ} (z : Sizes slots place) {x : Scene} {W : World} (m : Mirror slots place x W) {k : Side} {n : ℕ} {p : Packet} {l : List Item}
-    (head : W .chan k ≡ pkt n p ∷ l) (given lent : ℕ) (g : Given slots place (x .world k) (packetFor (W .sid n) p) given lent) where
+module _ {slots : ℕ} {lim : Limits} {x : Scene} {W : World} (m : Mirror slots lim x W) {k : Side} {n : ℕ} {p : Packet} {l : List Item}
+    (head : W .chan k ≡ pkt n p ∷ l) (given lent : ℕ) (g : Given slots lim (x .world k) (packetFor (W .sid n) p) given lent) where
   abbrev e : End
   e = x .world k .end
 
@@ -80,53 +80,53 @@ module _ {slots place : ℕ} (z : Sizes slots place) {x : Scene} {W : World} (m 
   abbrev y : Session
   y = slot (x .world k) i
 
-  stands : Stands place i storage y sid (stOf k L) (half k L)
+  stands : Stands lim i storage y sid (stOf k L) (half k L)
   stands = lane-stands m k n taking-slot
 
-  clear : first (takeOn (sized place) (kindOf p) y (headerFor sid p)) ≡ 0
-  clear = sym (held-cases (sized place) (kindOf p) y (headerFor sid p)) ∙ take-number (stOf k L) p stands (ranges-of m k n) zero'
+  clear : first (takeOn lim (kindOf p) y (headerFor sid p)) ≡ 0
+  clear = sym (held-cases lim (kindOf p) y (headerFor sid p)) ∙ take-number (m .sizes .wide) (stOf k L) p stands (ranges-of m k n) zero'
 
   -- ---- what take answers
 
-  short : shortStorage (sized place) e (length (take lent storage)) ≡ false
+  short : shortStorage lim e (length (take lent storage)) ≡ false
   short = short-is m k lent ∙ g .long
 
-  pub taking-answer : takeOf (sized place) (x .world k .end) (take given (x .world k .coming)) (length (take lent (x .world k .storage)))
+  pub taking-answer : takeOf lim (x .world k .end) (take given (x .world k .coming)) (length (take lent (x .world k .storage)))
       ≡ takeDone (headerFor (W .sid n) p)
       (putOf (taking-slot .index) (takenOn (kindOf p) (headerFor (W .sid n) p) (slot (x .world k) (taking-slot .index))) (x .world k .end))
   taking-answer =
-      ap (λ (b : List ℕ). takeOf (sized place) e (take given b) (length (take lent storage))) (front-bytes (m .at k) head)
-      ∙ taken-answer (sized place) (z .fits) e (made-at m k) (m .at k .up) sid (packet-low m head) p (packet-small m head) (bytesOf W l) given (g .whole) i
+      ap (λ (b : List ℕ). takeOf lim e (take given b) (length (take lent storage))) (front-bytes (m .at k) head)
+      ∙ taken-answer lim (m .sizes .fits) e (made-at m k) (m .at k .up) sid (packet-low m head) p (packet-small m head) (bytesOf W l) given (g .whole) i
       (lane-at m k n taking-listed taking-slot) clear (length (take lent storage)) short
 
-  enough : storageLength place slots ≤ length (take lent storage)
-  enough = rw length-take (ltb-false (min lent (length storage)) (storageLength place slots) (g .long))
+  enough : storageLength (lim .place) slots ≤ length (take lent storage)
+  enough = rw length-take (ltb-false (min lent (length storage)) (storageLength (lim .place) slots) (g .long))
 
-  lent-in : (s : List ℕ) → storageLength place slots ≤ length s → Lent place slots i (headerFor sid p) (packetFor sid p) s
+  lent-in : (s : List ℕ) → storageLength (lim .place) slots ≤ length s → Lent lim slots i (headerFor sid p) (packetFor sid p) s
   lent-in s h = packet-lent sid p (taking-slot .within) h (packet-small m head)
 
-  pub taking-lent : Lent place slots (taking-slot .index) (headerFor (W .sid n) p) (packetFor (W .sid n) p) (x .world k .storage)
+  pub taking-lent : Lent lim slots (taking-slot .index) (headerFor (W .sid n) p) (packetFor (W .sid n) p) (x .world k .storage)
   taking-lent = lent-in storage (omega (arith, enough, ap length (take-append-drop lent storage), length-append (take lent storage) (drop lent storage)))
 
   -- the storage with the payload in its place
   abbrev pub taking-kept : List ℕ
-  taking-kept = kept (sized place) (cellOf (slot (x .world k) (taking-slot .index) .state) (kindOf p)) (taking-slot .index) (headerFor (W .sid n) p)
+  taking-kept = kept lim (cellOf (slot (x .world k) (taking-slot .index) .state) (kindOf p)) (taking-slot .index) (headerFor (W .sid n) p)
       (packetFor (W .sid n) p) (x .world k .storage)
 
-  pub taking-storage : takeStorage (sized place) (x .world k .end) (take given (x .world k .coming)) (take lent (x .world k .storage))
+  pub taking-storage : takeStorage lim (x .world k .end) (take given (x .world k .coming)) (take lent (x .world k .storage))
       ++ drop lent (x .world k .storage) ≡ taking-kept
   taking-storage =
       let c = cellOf (y .state) (kindOf p) in
-      ap (λ (b : List ℕ). takeStorage (sized place) e (take given b) (take lent storage) ++ drop lent storage) (front-bytes (m .at k) head)
+      ap (λ (b : List ℕ). takeStorage lim e (take given b) (take lent storage) ++ drop lent storage) (front-bytes (m .at k) head)
       ∙ ap (λ (s : List ℕ). s ++ drop lent storage)
-      (taken-storage (sized place) (z .fits) e (made-at m k) (m .at k .up) sid (packet-low m head) p (packet-small m head) (bytesOf W l) given (g .whole) i
+      (taken-storage lim (m .sizes .fits) e (made-at m k) (m .at k .up) sid (packet-low m head) p (packet-small m head) (bytesOf W l) given (g .whole) i
       (lane-at m k n taking-listed taking-slot) clear (take lent storage) short)
       ∙ kept-lent c (take lent storage) (drop lent storage) (lent-in (take lent storage) enough)
-      ∙ ap (kept (sized place) c i (headerFor sid p) (packetFor sid p)) (take-append-drop lent storage)
+      ∙ ap (kept lim c i (headerFor sid p) (packetFor sid p)) (take-append-drop lent storage)
 
   -- ---- the step
 
-  become : After place i taking-kept (takenOn (kindOf p) (headerFor sid p) y) sid (moved k deliver L .out .st) (moved k deliver L .out .body)
+  become : After lim i taking-kept (takenOn (kindOf p) (headerFor sid p) y) sid (moved k deliver L .out .st) (moved k deliver L .out .body)
   become = rw out-is (take-after (stOf k L) p stands (ranges-of m k n) zero' taking-lent)
 
   quiet : moved k deliver L .out .emit ≡ none
@@ -135,11 +135,11 @@ module _ {slots place : ℕ} (z : Sizes slots place) {x : Scene} {W : World} (m 
   abbrev step : Step
   step = record { side = k; call = Take given lent }
 
-  own-step : OwnStep place x W k n deliver i (acted (did (sized place) (Take given lent) (x .world k)) (x .world k)) (record {
-    coming = left (Take given lent) (did (sized place) (Take given lent) (x .world k) .reply) (x .book .notes k .coming);
-    owner = owners (Take given lent) (x .world k) (whoseIn (sized place) x step) (did (sized place) (Take given lent) (x .world k) .reply)
+  own-step : OwnStep lim x W k n deliver i (acted (did lim (Take given lent) (x .world k)) (x .world k)) (record {
+    coming = left (Take given lent) (did lim (Take given lent) (x .world k) .reply) (x .book .notes k .coming);
+    owner = owners (Take given lent) (x .world k) (whoseIn lim x step) (did lim (Take given lent) (x .world k) .reply)
         (x .book .notes k .owner);
-  }) (whoseIn (sized place) x step) []
+  }) (whoseIn lim x step) []
   own-step = record {
     session = takenOn (kindOf p) (headerFor sid p) y;
     end = rw taking-answer;
@@ -154,7 +154,7 @@ module _ {slots place : ℕ} (z : Sizes slots place) {x : Scene} {W : World} (m 
     small = rw quiet tt;
   }
 
-  pub acted-taking : Acted slots place x W (record { side = k; call = Take given lent }) (turn k n deliver)
+  pub acted-taking : Acted slots lim x W (record { side = k; call = Take given lent }) (turn k n deliver)
   acted-taking =
       acted-own m taking-listed (record { packet = p; tail = l; eq = head }) taking-slot (Take given lent) own-step refl
       (rw (taking-answer, packet-toward (m .inv) k n p l head, packet-size sid p))

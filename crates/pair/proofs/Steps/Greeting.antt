@@ -11,6 +11,7 @@ use Rattle.session.specs.Record.{freshOf}
 use Rattle.table.specs.declared.end.End.{End}
 use Rattle.table.specs.Slots.{holds, lowestFree, full}
 use Rattle.table.specs.End.{putOf}
+use Rattle.table.specs.Limits.{Limits}
 use Rattle.calling.specs.Calling.{shortStorage}
 use Rattle.open.specs.Open.{synHeader}
 use Rattle.take.specs.Take.{takeDone, takeOf, takeStorage}
@@ -21,7 +22,6 @@ use Rattle.pair.proofs.Lane.Acts.{greet}
 use Rattle.pair.proofs.Lane.Heads.{syn-born, syn-new, syn-room}
 use Rattle.pair.proofs.Lane.Sides.{Kept}
 use Rattle.pair.proofs.Lane.Begin.{welcomed-inv}
-use Rattle.pair.specs.World.{Sizes, sized}
 use Rattle.pair.specs.Step.{Take, Step}
 use Rattle.pair.specs.Whose.{given}
 use Rattle.pair.specs.History.{Scene, entry}
@@ -33,8 +33,8 @@ use Rattle.pair.proofs.Mirror.Channels.{Channel, marksOf, bytesOf, fron
 use Rattle.pair.proofs.Mirror.NewLane.{stays-at, new-at}
 use Rattle.pair.proofs.Steps.Performs.{Given, Lengths, Acted}
 
-module _ {slots place : ℕ} (z : Sizes slots place) {x : Scene} {W : World} (m : Mirror slots place x W) (given' lent : ℕ) {l : List Item}
-    (head : W .chan server ≡ syn (W .known) ∷ l) (g : Given slots place (x .world server) (synFor (W .sid (W .known))) given' lent) where
+module _ {slots : ℕ} {lim : Limits} {x : Scene} {W : World} (m : Mirror slots lim x W) (given' lent : ℕ) {l : List Item}
+    (head : W .chan server ≡ syn (W .known) ∷ l) (g : Given slots lim (x .world server) (synFor (W .sid (W .known))) given' lent) where
   abbrev e : End
   e = x .world server .end
 
@@ -53,23 +53,23 @@ module _ {slots place : ℕ} (z : Sizes slots place) {x : Scene} {W : World} (m 
   pub greeting-room : full (x .world server .end .slots) ≡ false
   greeting-room = full-room m server (syn-room (m .inv) (W .known) l head)
 
-  long : shortStorage (sized place) e (length (take lent storage)) ≡ false
+  long : shortStorage lim e (length (take lent storage)) ≡ false
   long = short-is m server lent ∙ g .long
 
-  pub greeting-answer : takeOf (sized place) (x .world server .end) (take given' (x .world server .coming)) (length (take lent (x .world server .storage)))
+  pub greeting-answer : takeOf lim (x .world server .end) (take given' (x .world server .coming)) (length (take lent (x .world server .storage)))
       ≡ takeDone (synHeader (W .sid (W .known))) (putOf (lowestFree (x .world server .end .slots)) (freshOf (W .sid (W .known))) (x .world server .end))
   greeting-answer =
-      ap (λ (b : List ℕ). takeOf (sized place) e (take given' b) (length (take lent storage))) (front-bytes (m .at server) head)
-      ∙ begun-answer (sized place) (z .fits) e (made-at m server) (m .at server .up) sid low (bytesOf W l) given' (g .whole)
+      ap (λ (b : List ℕ). takeOf lim e (take given' b) (length (take lent storage))) (front-bytes (m .at server) head)
+      ∙ begun-answer lim (m .sizes .fits) e (made-at m server) (m .at server .up) sid low (bytesOf W l) given' (g .whole)
       (m .at server .role) new greeting-room
       (length (take lent storage)) long
 
-  pub greeting-storage : takeStorage (sized place) (x .world server .end) (take given' (x .world server .coming)) (take lent (x .world server .storage))
+  pub greeting-storage : takeStorage lim (x .world server .end) (take given' (x .world server .coming)) (take lent (x .world server .storage))
       ++ drop lent (x .world server .storage) ≡ x .world server .storage
   greeting-storage =
-      ap (λ (b : List ℕ). takeStorage (sized place) e (take given' b) (take lent storage) ++ drop lent storage) (front-bytes (m .at server) head)
+      ap (λ (b : List ℕ). takeStorage lim e (take given' b) (take lent storage) ++ drop lent storage) (front-bytes (m .at server) head)
       ∙ ap (λ (s : List ℕ). s ++ drop lent storage)
-      (begun-storage (sized place) (z .fits) e (made-at m server) (m .at server .up) sid low (bytesOf W l) given' (g .whole)
+      (begun-storage lim (m .sizes .fits) e (made-at m server) (m .at server .up) sid low (bytesOf W l) given' (g .whole)
       (m .at server .role) new greeting-room
       (take lent storage) long)
       ∙ take-append-drop lent storage
@@ -79,10 +79,10 @@ module _ {slots place : ℕ} (z : Sizes slots place) {x : Scene} {W : World} (m 
   kept : (k : Side) (j : ℕ) → Kept W (welcomed W) k j
   kept k j = record { sid = refl; st = refl; body = refl }
 
-  to-server : Channel place (welcomed W) server (bytesOf W l) (marksOf W l)
+  to-server : Channel lim (welcomed W) server (bytesOf W l) (marksOf W l)
   to-server = record { marks = rw head; bytes = refl; small = rw head (rw head at (m .at server .small)) }
 
-  at-server : MirrorAt slots place (welcomed W) server
+  at-server : MirrorAt slots lim (welcomed W) server
       (record { end = putOf (lowestFree (e .slots)) (freshOf sid) e; storage = storage; coming = bytesOf W l })
       (record { coming = marksOf W l; owner = given (lowestFree (e .slots)) (some (W .known)) (x .book .notes server .owner) })
   at-server =
@@ -90,7 +90,7 @@ module _ {slots place : ℕ} (z : Sizes slots place) {x : Scene} {W : World} (m 
       (false-T (has (W .known) (W .table server)) (λ t. omega (arith, m .inv .tables server .below (W .known) t))) refl
       (m .inv .unknown (W .known) (omega arith) .0) (m .inv .unknown (W .known) (omega arith) .1)
 
-  at-client : MirrorAt slots place (welcomed W) client (x .world client) (x .book .notes client)
+  at-client : MirrorAt slots lim (welcomed W) client (x .world client) (x .book .notes client)
   at-client = stays-at (m .at client) (welcomed W) (λ j t. kept client j)
       (record { marks = m .at client .marks; bytes = m .at client .bytes; small = m .at client .small }) refl
 
@@ -100,9 +100,9 @@ module _ {slots place : ℕ} (z : Sizes slots place) {x : Scene} {W : World} (m 
   step = record { side = server; call = Take given' lent }
 
   abbrev scene : Scene
-  scene = entry (sized place) x step .after
+  scene = entry lim x step .after
 
-  at-side : (k : Side) → MirrorAt slots place (welcomed W) k (scene .world k) (scene .book .notes k)
+  at-side : (k : Side) → MirrorAt slots lim (welcomed W) k (scene .world k) (scene .book .notes k)
   at-side client = simp append-nil at-client
   at-side server = rw (
     greeting-answer,
@@ -116,9 +116,9 @@ module _ {slots place : ℕ} (z : Sizes slots place) {x : Scene} {W : World} (m 
   lengths client = refl
   lengths server = ap length greeting-storage
 
-  pub acted-greeting : Acted slots place x W step greet
+  pub acted-greeting : Acted slots lim x W step greet
   acted-greeting = record {
-    mirror = record { inv = welcomed-inv (m .inv) (W .known) l head; at = at-side; opened = m .opened; low = m .low };
+    mirror = record { sizes = m .sizes; inv = welcomed-inv (m .inv) (W .known) l head; at = at-side; opened = m .opened; low = m .low };
     whose = rw greeting-answer (front-sender (m .at server) head);
     reply = rw greeting-answer;
     lengths = lengths;

@@ -15,6 +15,7 @@ use Rattle.session.specs.Record.{freshOf}
 use Rattle.table.specs.declared.end.End.{End}
 use Rattle.table.specs.Slots.{lowestFree, full, smallestSid}
 use Rattle.table.specs.End.{putOf}
+use Rattle.table.specs.Limits.{Limits}
 use Rattle.table.proofs.Smallest.{smallest-new, smallest-low}
 use Rattle.open.specs.Open.{isServer, openDone, openOf, openPacket}
 use Rattle.pair.specs.Side.{Side, client, server}
@@ -26,7 +27,6 @@ use Rattle.pair.proofs.Lane.Rows.{setNum-same, setNum-other}
 use Rattle.pair.proofs.Lane.Heads.{items-below, listed-born}
 use Rattle.pair.proofs.Lane.Sides.{Kept}
 use Rattle.pair.proofs.Lane.Begin.{opened-inv}
-use Rattle.pair.specs.World.{Sizes, sized}
 use Rattle.pair.specs.Step.{Open}
 use Rattle.pair.specs.Whose.{Marked, given}
 use Rattle.pair.specs.History.{Scene, entry}
@@ -38,7 +38,7 @@ use Rattle.pair.proofs.Mirror.Channels.{stream-tail, marked-one, marks-
 use Rattle.pair.proofs.Mirror.NewLane.{stays-at, new-at}
 use Rattle.pair.proofs.Steps.Performs.{Lengths, Acted}
 
-module _ {slots place : ℕ} (z : Sizes slots place) {x : Scene} {W : World} (m : Mirror slots place x W) (room : ℕ)
+module _ {slots : ℕ} {lim : Limits} {x : Scene} {W : World} (m : Mirror slots lim x W) (room : ℕ)
     (long : headerLength ≤ room) (few : length (W .table client) < slots) where
   abbrev e : End
   e = x .world client .end
@@ -56,11 +56,11 @@ module _ {slots place : ℕ} (z : Sizes slots place) {x : Scene} {W : World} (m 
   number : first (openOn (e .role) (full (e .slots)) room) ≡ 0
   number = says (skip (ap isServer (m .at client .role)) (skip free' (skip (le-ltb room headerLength long) nothing)))
 
-  answer : openOf (sized place) e room ≡ openDone sid (putOf (lowestFree (e .slots)) (freshOf sid) e)
-  answer = open-answer (sized place) e (made-at m client) (m .at client .up) room ∙ done-0 _ _ _ number
+  answer : openOf lim e room ≡ openDone sid (putOf (lowestFree (e .slots)) (freshOf sid) e)
+  answer = open-answer lim e (made-at m client) (m .at client .up) room ∙ done-0 _ _ _ number
 
-  packet : openPacket (sized place) e room ≡ synFor sid
-  packet = open-packet (sized place) e (made-at m client) (m .at client .up) room ∙ done-0 _ _ _ number
+  packet : openPacket lim e room ≡ synFor sid
+  packet = open-packet lim e (made-at m client) (m .at client .up) room ∙ done-0 _ _ _ number
 
   -- ---- the lanes and the channels
 
@@ -80,15 +80,15 @@ module _ {slots place : ℕ} (z : Sizes slots place) {x : Scene} {W : World} (m 
   sent-is : sent ≡ markOf (W' .sid) (syn (W .born))
   sent-is = ap₂ (λ (n y : ℕ). record { session = n; bytes = synFor y }) (m .opened) (sym (setNum-same (W .born) sid (W .sid)))
 
-  to-server : Channel place W' server (x .world server .coming ++ synFor sid) (x .book .notes server .coming ++ (sent ∷ []))
+  to-server : Channel lim W' server (x .world server .coming ++ synFor sid) (x .book .notes server .coming ++ (sent ∷ []))
   to-server = record {
     marks = ap₂ (λ (l : List Marked) (y : Marked). l ++ (y ∷ [])) (marks server) sent-is
         ∙ sym (map-append (markOf (W' .sid)) (W .chan server) (syn (W .born) ∷ []));
     bytes = ap (λ (l : List ℕ). l ++ synFor sid) (m .at server .bytes) ∙ sym (stream-tail (λ (y : Marked). y .bytes) (x .book .notes server .coming) sent);
-    small = small-append place (W .chan server) (syn (W .born) ∷ []) (m .at server .small) tt;
+    small = small-append lim (W .chan server) (syn (W .born) ∷ []) (m .at server .small) tt;
   }
 
-  to-client : Channel place W' client (x .world client .coming) (x .book .notes client .coming)
+  to-client : Channel lim W' client (x .world client .coming) (x .book .notes client .coming)
   to-client = record { marks = marks client; bytes = m .at client .bytes; small = m .at client .small }
 
   -- ---- the step
@@ -96,7 +96,7 @@ module _ {slots place : ℕ} (z : Sizes slots place) {x : Scene} {W : World} (m 
   fresh' : W .lanes (W .born) ≡ begin
   fresh' = m .inv .unborn (W .born) (omega arith)
 
-  at-client : MirrorAt slots place W' client
+  at-client : MirrorAt slots lim W' client
       (record { end = putOf (lowestFree (e .slots)) (freshOf sid) e; storage = x .world client .storage; coming = x .world client .coming })
       (record { coming = x .book .notes client .coming; owner = given (lowestFree (e .slots)) (some (W .born)) (x .book .notes client .owner) })
   at-client =
@@ -104,15 +104,15 @@ module _ {slots place : ℕ} (z : Sizes slots place) {x : Scene} {W : World} (m 
       (false-T (has (W .born) (W .table client)) (λ t. omega (arith, listed-born (m .inv) client (W .born) t))) refl (ap (stOf client) fresh')
       (ap (half client) fresh')
 
-  at-server : MirrorAt slots place W' server
+  at-server : MirrorAt slots lim W' server
       (record { end = x .world server .end; storage = x .world server .storage; coming = x .world server .coming ++ synFor sid })
       (record { coming = x .book .notes server .coming ++ (sent ∷ []); owner = x .book .notes server .owner })
   at-server = stays-at (m .at server) W' (λ j t. kept server j (listed-born (m .inv) server j t)) to-server refl
 
   abbrev scene : Scene
-  scene = entry (sized place) x (record { side = client; call = Open room }) .after
+  scene = entry lim x (record { side = client; call = Open room }) .after
 
-  at-side : (k : Side) → MirrorAt slots place W' k (scene .world k) (scene .book .notes k)
+  at-side : (k : Side) → MirrorAt slots lim W' k (scene .world k) (scene .book .notes k)
   at-side client = rw (answer, m .opened) at-client
   at-side server = rw (answer, packet, marked-one (x .book .opened) (synFor sid) (omega (arith, syn-size sid))) at-server
 
@@ -124,12 +124,13 @@ module _ {slots place : ℕ} (z : Sizes slots place) {x : Scene} {W : World} (m 
   low n h = by (eq? n (W .born))
     where
       by : Eq? n (W .born) (eqb n (W .born)) → W' .sid n < 2 ^ 16
-      by (same q e') = rw e' (smallest-low (e .slots) free' (rw (m .at client .many) (z .few)))
+      by (same q e') = rw e' (smallest-low (e .slots) free' (rw (m .at client .many) (m .sizes .few)))
       by (differ q e') = rw e' (m .low n (omega arith))
 
-  pub acted-opening : Acted slots place x W (record { side = client; call = Open room }) (dial sid)
+  pub acted-opening : Acted slots lim x W (record { side = client; call = Open room }) (dial sid)
   acted-opening = record {
     mirror = record {
+      sizes = m .sizes;
       inv = opened-inv (m .inv) sid few (none-held m client sid (smallest-new (e .slots)));
       at = at-side;
       opened = rw answer (ap suc (m .opened));

@@ -13,6 +13,7 @@ use Rattle.cases.specs.Cases.{Case, first}
 use Rattle.session.specs.declared.record.Session.{Session}
 use Rattle.session.specs.Record.{inUse}
 use Rattle.table.specs.End.{putOf}
+use Rattle.table.specs.Limits.{Limits}
 use Rattle.pair.specs.Side.{Side}
 use Rattle.pair.proofs.Lane.Half.{St, Body, Out, refuse}
 use Rattle.pair.proofs.Lane.Lane.{Call, moved, toward}
@@ -20,7 +21,7 @@ use Rattle.pair.proofs.Lane.Tables.{has}
 use Rattle.pair.proofs.Lane.World.{World, after}
 use Rattle.pair.proofs.Lane.Acts.{Ready, turn}
 use Rattle.table.proofs.Slots.{put-same}
-use Rattle.pair.specs.World.{Party, sized}
+use Rattle.pair.specs.World.{Party}
 use Rattle.pair.specs.Step as step
 use Rattle.pair.specs.Step.{did, acted, Reply}
 use Rattle.pair.specs.Whose.{left, owners, counted, Marked}
@@ -36,21 +37,21 @@ use Rattle.pair.proofs.Steps.Performs.{actReply, Acted, outReply, turnR
 use Rattle.pair.proofs.Steps.Resting.{refused}
 
 -- the step s at its side: its call does d, and is that session's
-pub acted-own : {slots place : ℕ} {x : Scene} {W : World} (m : Mirror slots place x W) {k : Side} {n : ℕ} {c : Call} (t : T (has n (W .table k)))
+pub acted-own : {slots : ℕ} {lim : Limits} {x : Scene} {W : World} (m : Mirror slots lim x W) {k : Side} {n : ℕ} {c : Call} (t : T (has n (W .table k)))
     (r : Ready c n (W .chan k))
     (f : SlotFor slots (x .world k) (x .book .notes k) n) (call : step.Call)
-    → (let s : step.Step = record { side = k; call = call } in let d : step.Done = did (sized place) call (x .world k) in
-    OwnStep place x W k n c (f .index) (acted d (x .world k)) (record {
+    → (let s : step.Step = record { side = k; call = call } in let d : step.Done = did lim call (x .world k) in
+    OwnStep lim x W k n c (f .index) (acted d (x .world k)) (record {
       coming = left call (d .reply) (x .book .notes k .coming);
-      owner = owners call (x .world k) (whoseIn (sized place) x s) (d .reply) (x .book .notes k .owner);
-    }) (whoseIn (sized place) x s) (d .reply .packet)
+      owner = owners call (x .world k) (whoseIn lim x s) (d .reply) (x .book .notes k .owner);
+    }) (whoseIn lim x s) (d .reply .packet)
     → counted call (d .reply) (x .book .opened) ≡ x .book .opened → d .reply ≡ actReply W (turn k n c) → length (d .storage) ≡ length (x .world k .storage)
-    → Acted slots place x W s (turn k n c))
-acted-own {place = place} {x = x} m {k} t r f call s counts reply long = record {
-  mirror = let a = own-mirror m t r f s in record { inv = a .inv; at = a .at; opened = counts ∙ a .opened; low = a .low };
+    → Acted slots lim x W s (turn k n c))
+acted-own {lim = lim} {x = x} m {k} t r f call s counts reply long = record {
+  mirror = let a = own-mirror m t r f s in record { sizes = a .sizes; inv = a .inv; at = a .at; opened = counts ∙ a .opened; low = a .low };
   whose = s .whose;
   reply = reply;
-  lengths = sides (λ j. length (entry (sized place) x (record { side = k; call = call }) .after .world j .storage) ≡ length (x .world j .storage)) k
+  lengths = sides (λ j. length (entry lim x (record { side = k; call = call }) .after .world j .storage) ≡ length (x .world j .storage)) k
       (ap (λ (p : Party). length (p .storage)) (with-own k _ _ (x .world)) ∙ long)
       (ap (λ (p : Party). length (p .storage)) (with-other k _ _ (x .world)));
 }
@@ -58,17 +59,18 @@ acted-own {place = place} {x = x} m {k} t r f call s counts reply long = record 
 -- ---- a call that names a SID
 
 -- what a call on slot i does at its side, where the half's step is o
-pub record Outcome (place i : ℕ) (p : Party) (sid : ℕ) (o : Out) (d : step.Done) : Type 0 where
+pub record Outcome (lim : Limits) (i : ℕ) (p : Party) (sid : ℕ) (o : Out) (d : step.Done) : Type 0 where
   pub session : Session
   pub end : d .end ≡ putOf i session (p .end)
-  pub become : After place i (p .storage) session sid (o .st) (o .body)
+  pub become : After lim i (p .storage) session sid (o .st) (o .body)
   pub reply : d .reply ≡ outReply sid o
   pub storage : d .storage ≡ p .storage
 
 -- ---- done or refused
 
-module _ {place i : ℕ} {p : Party} {sid : ℕ} {st : St} {B : Body} (a : Stands place i (p .storage) (slot p i) sid st B) (u : inUse (stateOf st) ≡ true) where
-  refused-outcome : (n : ℕ) → Outcome place i p sid (refuse n st B) (refused n 0 p)
+module _ {lim : Limits} {i : ℕ} {p : Party} {sid : ℕ} {st : St} {B : Body} (a : Stands lim i (p .storage) (slot p i) sid st B)
+    (u : inUse (stateOf st) ≡ true) where
+  refused-outcome : (n : ℕ) → Outcome lim i p sid (refuse n st B) (refused n 0 p)
   refused-outcome n = record {
     session = slot p i;
     end = sym (put-same i (p .end));
@@ -78,19 +80,19 @@ module _ {place i : ℕ} {p : Party} {sid : ℕ} {st : St} {B : Body} (a : Stand
   }
 
   pub outcome : {D : Out → Type 0} {cases : List Case} {o : Out} {y : Session} {sent read : List ℕ} (d : step.Done) → Does D st B cases o
-      → (D o → Done place i (p .storage) y sid sent read o)
+      → (D o → Done lim i (p .storage) y sid sent read o)
       → (first cases ≡ 0 → D o → d ≡ record { reply = answered 0 read sent; end = putOf i y (p .end); storage = p .storage })
-      → (0 < first cases → d ≡ refused (first cases) 0 p) → Outcome place i p sid o d
+      → (0 < first cases → d ≡ refused (first cases) 0 p) → Outcome lim i p sid o d
   outcome {cases = cases} {o} {y} {sent} {read} d does done zero other = by (decLt 0 (first cases))
     where
-      by : Dec (0 < first cases) → Outcome place i p sid o d
+      by : Dec (0 < first cases) → Outcome lim i p sid o d
       by (yes h) =
-          subst (λ (q : Out). Outcome place i p sid q d) (sym (does .refused (λ z. omega arith)))
-          (subst (Outcome place i p sid (refuse (first cases) st B)) (sym (other h)) (refused-outcome (first cases)))
+          subst (λ (q : Out). Outcome lim i p sid q d) (sym (does .refused (λ z. omega arith)))
+          (subst (Outcome lim i p sid (refuse (first cases) st B)) (sym (other h)) (refused-outcome (first cases)))
       by (no h) =
           let z : first cases ≡ 0 = omega arith in
           let f = done (does .done z) in
-          subst (Outcome place i p sid o) (sym (zero z (does .done z))) (record {
+          subst (Outcome lim i p sid o) (sym (zero z (does .done z))) (record {
             session = y;
             end = refl;
             become = f .after;
@@ -103,17 +105,17 @@ module _ {place i : ℕ} {p : Party} {sid : ℕ} {st : St} {B : Body} (a : Stand
 -- ---- the step
 
 -- a call that leaves the book's count, its side's channel and its owners, as the lane's call does: each of these is refl
-pub acted-call : {slots place : ℕ} {x : Scene} {W : World} (m : Mirror slots place x W) {k : Side} {n : ℕ} (t : T (has n (W .table k)))
+pub acted-call : {slots : ℕ} {lim : Limits} {x : Scene} {W : World} (m : Mirror slots lim x W) {k : Side} {n : ℕ} (t : T (has n (W .table k)))
     (f : SlotFor slots (x .world k) (x .book .notes k) n) (call : step.Call) (c : Call)
-    → (let d = did (sized place) call (x .world k) in let who = whoseIn (sized place) x (record { side = k; call = call }) in let o =
+    → (let d = did lim call (x .world k) in let who = whoseIn lim x (record { side = k; call = call }) in let o =
     moved k c (W .lanes n) .out in
     Ready c n (W .chan k) → after c (W .chan k) ≡ W .chan k → turnReply (W .sid n) c o (toward k (W .lanes n)) ≡ outReply (W .sid n) o
     → left call (d .reply) (x .book .notes k .coming) ≡ x .book .notes k .coming
     → owners call (x .world k) who (d .reply) (x .book .notes k .owner) ≡ x .book .notes k .owner
     → counted call (d .reply) (x .book .opened) ≡ x .book .opened
-    → who ≡ some n → Outcome place (f .index) (x .world k) (W .sid n) o d → FitsIn place (o .emit)
-    → Acted slots place x W (record { side = k; call = call }) (turn k n c))
-acted-call {place = place} {x} {W} m {k} {n} t f call c ready stays shown left owners counts who out fits =
+    → who ≡ some n → Outcome lim (f .index) (x .world k) (W .sid n) o d → FitsIn lim (o .emit)
+    → Acted slots lim x W (record { side = k; call = call }) (turn k n c))
+acted-call {lim = lim} {x} {W} m {k} {n} t f call c ready stays shown left owners counts who out fits =
     acted-own m t ready f call (record {
       session = out .session;
       end = out .end;

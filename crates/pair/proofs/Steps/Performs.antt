@@ -11,6 +11,7 @@ use lib.Dec.{T, ltb}
 use Rattle.wire.specs.declared.kind.Kind.the-variants.{Syn}
 use Rattle.wire.specs.Packet.{headerLength, flagsValue}
 use Rattle.table.specs.Slots.{smallestSid}
+use Rattle.table.specs.Limits.{Limits}
 use Rattle.pair.specs.Side.{Side, client, server}
 use Rattle.pair.proofs.Lane.Half.{Packet, Bytes, Out, Room}
 use Rattle.pair.proofs.Lane.Outcomes.{harmless}
@@ -18,7 +19,7 @@ use Rattle.pair.proofs.Lane.Lane as lane
 use Rattle.pair.proofs.Lane.Lane.{put, get, shut, deliver, moved, toward}
 use Rattle.pair.proofs.Lane.World.{Item, syn, pkt, World}
 use Rattle.pair.proofs.Lane.Acts.{Act, dial, greet, turn, act, owner}
-use Rattle.pair.specs.World.{Party, sized}
+use Rattle.pair.specs.World.{Party}
 use Rattle.pair.specs.Step as step
 use Rattle.pair.specs.Step.{Open, Send, Read, Close, Take, Step, Reply, emitting}
 use Rattle.pair.specs.History.{Scene, entry}
@@ -28,11 +29,11 @@ use Rattle.pair.proofs.Mirror.Facts.{tooShort, Names}
 
 -- ---- what a lane sees of the things lent
 
-abbrev pub sendRoom : ℕ → Bytes → ℕ → Room
-sendRoom place p room = record { buf = room; pay = 0; short = false; big = ltb place (length p) }
+abbrev pub sendRoom : Limits → Bytes → ℕ → Room
+sendRoom lim p room = record { buf = room; pay = 0; short = false; big = ltb (lim .place) (length p) }
 
-abbrev pub readRoom : ℕ → ℕ → ℕ → ℕ → ℕ → ℕ → Room
-readRoom slots place room ack lent all = record { buf = ack; pay = room; short = tooShort slots place lent all; big = false }
+abbrev pub readRoom : ℕ → Limits → ℕ → ℕ → ℕ → ℕ → Room
+readRoom slots lim room ack lent all = record { buf = ack; pay = room; short = tooShort slots lim lent all; big = false }
 
 abbrev pub closeRoom : ℕ → Room
 closeRoom room = record { buf = room; pay = 0; short = false; big = false }
@@ -40,25 +41,25 @@ closeRoom room = record { buf = room; pay = 0; short = false; big = false }
 -- ---- the act that a step performs
 
 -- the packet at the head is given whole, and the storage is long enough
-pub record Given (slots place : ℕ) (p : Party) (bytes : List ℕ) (given lent : ℕ) : Type 0 where
+pub record Given (slots : ℕ) (lim : Limits) (p : Party) (bytes : List ℕ) (given lent : ℕ) : Type 0 where
   pub whole : length bytes ≤ given
-  pub long : tooShort slots place lent (length (p .storage)) ≡ false
+  pub long : tooShort slots lim lent (length (p .storage)) ≡ false
 
-pub data Performs (slots place : ℕ) (x : Scene) (W : World) : Step → Act → Type 0 where
+pub data Performs (slots : ℕ) (lim : Limits) (x : Scene) (W : World) : Step → Act → Type 0 where
   opening : {room : ℕ} → headerLength ≤ room → length (W .table client) < slots
-      → Performs slots place x W (record { side = client; call = Open room }) (dial (smallestSid (x .world client .end .slots)))
-  greeting : {given lent n : ℕ} {l : List Item} → W .chan server ≡ syn n ∷ l → Given slots place (x .world server) (synFor (W .sid n)) given lent
-      → Performs slots place x W (record { side = server; call = Take given lent }) greet
+      → Performs slots lim x W (record { side = client; call = Open room }) (dial (smallestSid (x .world client .end .slots)))
+  greeting : {given lent n : ℕ} {l : List Item} → W .chan server ≡ syn n ∷ l → Given slots lim (x .world server) (synFor (W .sid n)) given lent
+      → Performs slots lim x W (record { side = server; call = Take given lent }) greet
   taking : {k : Side} {given lent n : ℕ} {p : Packet} {l : List Item} → W .chan k ≡ pkt n p ∷ l
-      → Given slots place (x .world k) (packetFor (W .sid n) p) given lent
-      → Performs slots place x W (record { side = k; call = Take given lent }) (turn k n deliver)
+      → Given slots lim (x .world k) (packetFor (W .sid n) p) given lent
+      → Performs slots lim x W (record { side = k; call = Take given lent }) (turn k n deliver)
   sending : {k : Side} {n sid room : ℕ} {p : Bytes} → Names W k n sid
-      → Performs slots place x W (record { side = k; call = Send sid p room }) (turn k n (put p (sendRoom place p room)))
+      → Performs slots lim x W (record { side = k; call = Send sid p room }) (turn k n (put p (sendRoom lim p room)))
   reading : {k : Side} {n sid room ack lent : ℕ} → Names W k n sid
-      → Performs slots place x W (record { side = k; call = Read sid room ack lent })
-      (turn k n (get (readRoom slots place room ack lent (length (x .world k .storage)))))
+      → Performs slots lim x W (record { side = k; call = Read sid room ack lent })
+      (turn k n (get (readRoom slots lim room ack lent (length (x .world k .storage)))))
   closing : {k : Side} {n sid room : ℕ} → Names W k n sid
-      → Performs slots place x W (record { side = k; call = Close sid room }) (turn k n (shut (closeRoom room)))
+      → Performs slots lim x W (record { side = k; call = Close sid room }) (turn k n (shut (closeRoom room)))
 
 -- ---- the reply that an act gets
 
@@ -94,15 +95,15 @@ actReply W (turn k n c) = turnReply (W .sid n) c (moved k c (W .lanes n) .out) (
 abbrev pub Lengths : Scene → Scene → Type 0
 Lengths x y = (k : Side) → length (y .world k .storage) ≡ length (x .world k .storage)
 
-pub record Acted (slots place : ℕ) (x : Scene) (W : World) (s : Step) (a : Act) : Type 0 where
-  pub mirror : Mirror slots place (entry (sized place) x s .after) (act a W)
-  pub whose : entry (sized place) x s .whose ≡ some (owner W a)
-  pub reply : entry (sized place) x s .reply ≡ actReply W a
-  pub lengths : Lengths x (entry (sized place) x s .after)
+pub record Acted (slots : ℕ) (lim : Limits) (x : Scene) (W : World) (s : Step) (a : Act) : Type 0 where
+  pub mirror : Mirror slots lim (entry lim x s .after) (act a W)
+  pub whose : entry lim x s .whose ≡ some (owner W a)
+  pub reply : entry lim x s .reply ≡ actReply W a
+  pub lengths : Lengths x (entry lim x s .after)
 
-pub record Rested (slots place : ℕ) (x : Scene) (W : World) (s : Step) : Type 0 where
-  pub mirror : Mirror slots place (entry (sized place) x s .after) W
-  pub whose : entry (sized place) x s .whose ≡ none
-  pub refused : entry (sized place) x s .reply .number ≢ 0
-  pub mild : T (harmless (entry (sized place) x s .reply .number))
-  pub lengths : Lengths x (entry (sized place) x s .after)
+pub record Rested (slots : ℕ) (lim : Limits) (x : Scene) (W : World) (s : Step) : Type 0 where
+  pub mirror : Mirror slots lim (entry lim x s .after) W
+  pub whose : entry lim x s .whose ≡ none
+  pub refused : entry lim x s .reply .number ≢ 0
+  pub mild : T (harmless (entry lim x s .reply .number))
+  pub lengths : Lengths x (entry lim x s .after)

@@ -19,6 +19,7 @@ use Rattle.session.specs.Record.{established, oldest}
 use Rattle.session.specs.Changes.{readOn}
 use Rattle.table.specs.Storage.{placeStart, storageLength}
 use Rattle.table.specs.End.{putOf}
+use Rattle.table.specs.Limits.{Limits}
 use Rattle.table.proofs.Places.{place-inside}
 use Rattle.read.specs.declared.Got.{Got}
 use Rattle.read.specs.Read.{oldestLength, readCases, ackOn, oldestIn, readDone}
@@ -29,7 +30,7 @@ use Rattle.pair.proofs.Lane.Lane.{half, stOf, get, moved}
 use Rattle.pair.proofs.Lane.Tables.{has}
 use Rattle.pair.proofs.Lane.World.{World}
 use Rattle.pair.proofs.Lane.Acts.{turn}
-use Rattle.pair.specs.World.{Party, sized}
+use Rattle.pair.specs.World.{Party}
 use Rattle.pair.specs.Step as step
 use Rattle.pair.specs.Step.{Read, did}
 use Rattle.pair.specs.History.{Scene}
@@ -42,8 +43,8 @@ use Rattle.pair.proofs.Steps.Performs.{readRoom, Acted}
 use Rattle.pair.proofs.Steps.OwnCall.{Outcome, outcome, acted-call}
 
 -- an ACK has no payload
-read-fits : (place : ℕ) (R : Room) (s : St) (B : Body) → FitsIn place (read R s B .emit)
-read-fits place R s B = read-all (λ (o : Out). FitsIn place (o .emit)) B R s (λ n a b. tt) (λ e p u q. omega arith) (λ e p u q. tt)
+read-fits : (lim : Limits) (R : Room) (s : St) (B : Body) → FitsIn lim (read R s B .emit)
+read-fits lim R s B = read-all (λ (o : Out). FitsIn lim (o .emit)) B R s (λ n a b. tt) (λ e p u q. omega arith) (λ e p u q. tt)
 
 -- ---- the payload lies in the front part that is lent
 
@@ -77,46 +78,46 @@ gives p r payload bytes = record {
 gives-same : (p : Party) {r r' : Got} {a a' b b' : List ℕ} → r ≡ r' → a ≡ a' → b ≡ b' → gives p r a b ≡ gives p r' a' b'
 gives-same p e f g = cc
 
-module _ {slots place : ℕ} {x : Scene} {W : World} (m : Mirror slots place x W) {k : Side} {n : ℕ} (t : T (has n (W .table k)))
+module _ {slots : ℕ} {lim : Limits} {x : Scene} {W : World} (m : Mirror slots lim x W) {k : Side} {n : ℕ} (t : T (has n (W .table k)))
     (f : SlotFor slots (x .world k) (x .book .notes k) n) (room ack lent : ℕ) where
-  oldest-front : tooShort slots place lent (length (x .world k .storage)) ≡ false
-      → oldestIn (sized place) (f .index) (slot (x .world k) (f .index)) (take lent (x .world k .storage))
-      ≡ oldestIn (sized place) (f .index) (slot (x .world k) (f .index)) (x .world k .storage)
+  oldest-front : tooShort slots lim lent (length (x .world k .storage)) ≡ false
+      → oldestIn lim (f .index) (slot (x .world k) (f .index)) (take lent (x .world k .storage))
+      ≡ oldestIn lim (f .index) (slot (x .world k) (f .index)) (x .world k .storage)
   oldest-front e =
       let s = slot (x .world k) (f .index) in
-      let small : oldestLength s ≤ place = lane-stands m k n f .small (rec.place (oldest s)) (mod-lt (oldest s) (omega arith)) in
-      let enough = ltb-false (min lent (length (x .world k .storage))) (storageLength place slots) e in
-      part-front (placeStart place (f .index) (oldest s)) (oldestLength s) lent (x .world k .storage)
-      (omega (arith, length-take lent (x .world k .storage), place-inside place slots (f .index) (oldest s) (oldestLength s) small (f .within)))
+      let small : oldestLength s ≤ lim .place = lane-stands m k n f .small (rec.place (oldest s)) (mod-lt (oldest s) (omega arith)) in
+      let enough = ltb-false (min lent (length (x .world k .storage))) (storageLength (lim .place) slots) e in
+      part-front (placeStart (lim .place) (f .index) (oldest s)) (oldestLength s) lent (x .world k .storage)
+      (omega (arith, length-take lent (x .world k .storage), place-inside (lim .place) slots (f .index) (oldest s) (oldestLength s) small (f .within)))
 
-  read-outcome : Outcome place (f .index) (x .world k) (W .sid n) (moved k (get (readRoom slots place room ack lent (length (x .world k .storage))))
+  read-outcome : Outcome lim (f .index) (x .world k) (W .sid n) (moved k (get (readRoom slots lim room ack lent (length (x .world k .storage))))
       (W .lanes n) .out)
-      (did (sized place) (Read (W .sid n) room ack lent) (x .world k))
+      (did lim (Read (W .sid n) room ack lent) (x .world k))
   read-outcome =
       let p = x .world k in
       let s = slot p (f .index) in
       let e1 = putOf (f .index) (readOn s) (p .end) in
       let a = lane-at m k n t f in
       let answer = rw (short-is m k lent) at
-      (read-answer (sized place) (p .end) (made-at m k) (m .at k .up) (W .sid n) (f .index) a room ack (length (take lent (p .storage)))) in
+      (read-answer lim (p .end) (made-at m k) (m .at k .up) (W .sid n) (f .index) a room ack (length (take lent (p .storage)))) in
       let payload = rw (short-is m k lent) at
-      (read-payload (sized place) (p .end) (made-at m k) (m .at k .up) (W .sid n) (f .index) a room ack (take lent (p .storage))) in
+      (read-payload lim (p .end) (made-at m k) (m .at k .up) (W .sid n) (f .index) a room ack (take lent (p .storage))) in
       let packet = rw (short-is m k lent) at
-      (read-ack (sized place) (p .end) (made-at m k) (m .at k .up) (W .sid n) (f .index) a room ack (length (take lent (p .storage)))) in
+      (read-ack lim (p .end) (made-at m k) (m .at k .up) (W .sid n) (f .index) a room ack (length (take lent (p .storage)))) in
       outcome (lane-stands m k n f) (lane-used m k n t) _
-      (read-does (stOf k (W .lanes n)) (lane-stands m k n f) (ranges-of m k n) (lane-used m k n t) (readRoom slots place room ack lent (length (p .storage))))
+      (read-does (stOf k (W .lanes n)) (lane-stands m k n f) (ranges-of m k n) (lane-used m k n t) (readRoom slots lim room ack lent (length (p .storage))))
       (λ d. d .done)
       (λ z d. gives-same p (answer ∙ done-0 _ _ _ z ∙ ap (λ (l : ℕ). readDone l (length (ackOn s)) e1) (d .long ∙ sym (ap length (d .done .payload))))
       (payload ∙ done-0 _ _ _ z ∙ oldest-front (not-short s room ack _ z)) (packet ∙ done-0 _ _ _ z))
       (λ h. gives-same p (answer ∙ done-not _ _ _ h) (payload ∙ done-not _ _ _ h) (packet ∙ done-not _ _ _ h))
 
-pub acted-reading : {slots place : ℕ} {x : Scene} {W : World} → Mirror slots place x W → {k : Side} {n sid : ℕ} → Names W k n sid → (room ack lent : ℕ)
-    → Acted slots place x W (record { side = k; call = Read sid room ack lent })
-    (turn k n (get (readRoom slots place room ack lent (length (x .world k .storage)))))
-acted-reading {slots} {place} {x} {W} m {k} {n} a room ack lent =
+pub acted-reading : {slots : ℕ} {lim : Limits} {x : Scene} {W : World} → Mirror slots lim x W → {k : Side} {n sid : ℕ} → Names W k n sid → (room ack lent : ℕ)
+    → Acted slots lim x W (record { side = k; call = Read sid room ack lent })
+    (turn k n (get (readRoom slots lim room ack lent (length (x .world k .storage)))))
+acted-reading {slots} {lim} {x} {W} m {k} {n} a room ack lent =
     let f = m .at k .found n (a .listed) in
-    let R = readRoom slots place room ack lent (length (x .world k .storage)) in
-    subst (λ (sid : ℕ). Acted slots place x W (record { side = k; call = Read sid room ack lent }) (turn k n (get R))) (a .name)
+    let R = readRoom slots lim room ack lent (length (x .world k .storage)) in
+    subst (λ (sid : ℕ). Acted slots lim x W (record { side = k; call = Read sid room ack lent }) (turn k n (get R))) (a .name)
     (acted-call m (a .listed) f (Read (W .sid n) room ack lent) (get R) tt refl refl refl refl refl (named-is m k n (a .listed))
     (read-outcome m (a .listed) f room ack lent)
-    (read-fits place R (stOf k (W .lanes n)) (half k (W .lanes n))))
+    (read-fits lim R (stOf k (W .lanes n)) (half k (W .lanes n))))

@@ -7,10 +7,11 @@ use mathlib.Core.Option.{Option, none}
 use lib.ListN.{length}
 use lib.Dec.{T}
 use Rattle.cases.proofs.First.{done-not}
+use Rattle.table.specs.Limits.{Limits}
 use Rattle.pair.specs.Side.{Side, other}
 use Rattle.pair.proofs.Lane.Outcomes.{harmless}
 use Rattle.pair.proofs.Lane.World.{World}
-use Rattle.pair.specs.World.{Party, with, sized}
+use Rattle.pair.specs.World.{Party, with}
 use Rattle.pair.specs.Step.{Call, Open, Send, Read, Close, Take, Step, Reply, Done, did, acted, reached, taking}
 use Rattle.pair.specs.Whose.{Marked, left, owners, counted, noted}
 use Rattle.pair.specs.History.{Scene, whoseIn}
@@ -19,9 +20,9 @@ use Rattle.pair.proofs.Mirror.Sides.{sides, with-own, with-other}
 use Rattle.pair.proofs.Steps.Performs.{Rested}
 
 -- a scene with the same sides
-mirror-same : {slots place : ℕ} {x y : Scene} {W : World} → ((k : Side) → y .world k ≡ x .world k) → ((k : Side) → y .book .notes k ≡ x .book .notes k)
-    → y .book .opened ≡ x .book .opened → Mirror slots place x W → Mirror slots place y W
-mirror-same w b o m = record { inv = m .inv; at = λ k. rw (w k, b k) (m .at k); opened = o ∙ m .opened; low = m .low }
+mirror-same : {slots : ℕ} {lim : Limits} {x y : Scene} {W : World} → ((k : Side) → y .world k ≡ x .world k) → ((k : Side) → y .book .notes k ≡ x .book .notes k)
+    → y .book .opened ≡ x .book .opened → Mirror slots lim x W → Mirror slots lim y W
+mirror-same w b o m = record { sizes = m .sizes; inv = m .inv; at = λ k. rw (w k, b k) (m .at k); opened = o ∙ m .opened; low = m .low }
 
 -- ---- the book after a refusal
 
@@ -56,13 +57,13 @@ refusal n missing = taking n 0 0 0 missing
 abbrev pub refused : ℕ → ℕ → Party → Done
 refused n missing p = record { reply = refusal n missing; end = p .end; storage = p .storage }
 
-module _ {slots place : ℕ} {x : Scene} {W : World} (m : Mirror slots place x W) (s : Step) (n missing : ℕ) (low : 0 < n) (mild : T (harmless n))
-    (is : did (sized place) (s .call) (x .world (s .side)) ≡ refused n missing (x .world (s .side))) (who : whoseIn (sized place) x s ≡ none) where
+module _ {slots : ℕ} {lim : Limits} {x : Scene} {W : World} (m : Mirror slots lim x W) (s : Step) (n missing : ℕ) (low : 0 < n) (mild : T (harmless n))
+    (is : did lim (s .call) (x .world (s .side)) ≡ refused n missing (x .world (s .side))) (who : whoseIn lim x s ≡ none) where
   -- the scene after a step that does d
   abbrev scene : Done → Scene
   scene d = record {
     world = with (s .side) (acted d (x .world (s .side))) (with (other (s .side)) (reached (d .reply .packet) (x .world (other (s .side)))) (x .world));
-    book = noted s (x .world) (whoseIn (sized place) x s) (d .reply) (x .book);
+    book = noted s (x .world) (whoseIn lim x s) (d .reply) (x .book);
   }
 
   abbrev d : Done
@@ -78,11 +79,11 @@ module _ {slots place : ℕ} {x : Scene} {W : World} (m : Mirror slots place x W
       sides (λ k. scene d .book .notes k ≡ x .book .notes k) (s .side)
       (with-own (s .side) _ _ (x .book .notes) ∙ rw (
         left-refused (s .call) (d .reply) (x .book .notes (s .side) .coming) (omega arith),
-        owners-refused (s .call) (x .world (s .side)) (whoseIn (sized place) x s) (d .reply) (x .book .notes (s .side) .owner) (omega arith),
+        owners-refused (s .call) (x .world (s .side)) (whoseIn lim x s) (d .reply) (x .book .notes (s .side) .owner) (omega arith),
       ))
       (with-other (s .side) _ _ (x .book .notes) ∙ rw append-nil)
 
-  pub rests : Rested slots place x W s
+  pub rests : Rested slots lim x W s
   rests = record {
     mirror = mirror-same (λ k. ap (λ (d : Done). scene d .world k) is ∙ same-world k) (λ k. ap (λ (d : Done). scene d .book .notes k) is ∙ same-notes k)
         (ap (λ (d : Done). scene d .book .opened) is ∙ counted-refused (s .call) (d .reply) (x .book .opened) (omega arith)) m;
@@ -92,5 +93,5 @@ module _ {slots place : ℕ} {x : Scene} {W : World} (m : Mirror slots place x W
     lengths = λ k. ap (λ (p : Party). length (p .storage)) (ap (λ (d : Done). scene d .world k) is ∙ same-world k);
   }
     where
-      number : did (sized place) (s .call) (x .world (s .side)) .reply .number ≡ n
+      number : did lim (s .call) (x .world (s .side)) .reply .number ≡ n
       number = ap (λ (d : Done). d .reply .number) is
