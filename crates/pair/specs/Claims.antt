@@ -6,14 +6,14 @@ use mathlib.Core.Bool.{Bool, true, false, not}
 use mathlib.Core.List.{List, [], _∷_, _++_}
 use mathlib.Core.Option.{Option, none, some}
 use lib.ListN.{length, take, drop, getD}
-use lib.Dec.{eqb}
+use lib.Dec.{T, eqb}
 use Rattle.cases.specs.Cases.{if, done}
 use Rattle.wire.specs.declared.kind.Kind.the-variants.{Syn, Fin}
 use Rattle.wire.specs.Packet.{flagsValue}
 use Rattle.session.specs.declared.record.Session.{Session}
 use Rattle.session.specs.Record.{free, inUse}
 use Rattle.pair.specs.Side.{Side, client, server}
-use Rattle.pair.specs.Step.{Call, Open, Send, Read, Close, Take, Step, Reply}
+use Rattle.pair.specs.Step.{Call, Open, Send, Read, Close, Take, shape, Step, Reply}
 use Rattle.pair.specs.History.{Scene, Entry}
 
 -- ---- every entry, some entry
@@ -44,19 +44,15 @@ only client server ps = []
 only server client ps = []
 only server server ps = ps
 
+abbrev pub offered : Option (List ℕ) → Reply → List (List ℕ)
+offered none r = []
+offered (some payload) r = done (r .number) (payload ∷ []) []
+
 abbrev pub sent : Call → Reply → List (List ℕ)
-sent (Open room) r = []
-sent (Send sid payload room) r = done (r .number) (payload ∷ []) []
-sent (Read sid room ack lent) r = []
-sent (Close sid room) r = []
-sent (Take given lent) r = []
+sent c r = offered (shape c .offers) r
 
 abbrev pub got : Call → Reply → List (List ℕ)
-got (Open room) r = []
-got (Send sid payload room) r = []
-got (Read sid room ack lent) r = done (r .number) (r .payload ∷ []) []
-got (Close sid room) r = []
-got (Take given lent) r = []
+got c r = if (shape c .reads) (done (r .number) (r .payload ∷ []) []) []
 
 -- what the sends at a side were accepted with, in order
 unfoldable pub accepted : Side → List Entry → List (List ℕ)
@@ -76,25 +72,13 @@ pub record FirstPart (a b : List (List ℕ)) : Type 0 where
 -- ---- kinds of entries
 
 abbrev pub IsRead : Call → Type 0
-IsRead (Open room) = ⊥
-IsRead (Send sid payload room) = ⊥
-IsRead (Read sid room ack lent) = Unit
-IsRead (Close sid room) = ⊥
-IsRead (Take given lent) = ⊥
+IsRead c = T (shape c .reads)
 
 abbrev pub IsTake : Call → Type 0
-IsTake (Open room) = ⊥
-IsTake (Send sid payload room) = ⊥
-IsTake (Read sid room ack lent) = ⊥
-IsTake (Close sid room) = ⊥
-IsTake (Take given lent) = Unit
+IsTake c = T (shape c .takes)
 
 abbrev pub IsOpen : Call → Type 0
-IsOpen (Open room) = Unit
-IsOpen (Send sid payload room) = ⊥
-IsOpen (Read sid room ack lent) = ⊥
-IsOpen (Close sid room) = ⊥
-IsOpen (Take given lent) = ⊥
+IsOpen c = T (shape c .opens)
 
 -- a read at that side answered 11
 pub record Told (k : Side) (e : Entry) : Type 0 where

@@ -1,7 +1,9 @@
 -- A step of the pair: one side makes one call. "What a call emits goes whole to the tail of that direction's channel. Take is given some
 -- front part of what the channel holds, and the bytes it used leave" (document 01). Each call is the definition that its contract cites.
 use Prim.Native.Nat.{ℕ}
+use mathlib.Core.Bool.{Bool, true, false}
 use mathlib.Core.List.{List, [], _++_}
+use mathlib.Core.Option.{Option, none, some}
 use lib.ListN.{length, take, drop}
 use Rattle.table.specs.declared.end.End.{End}
 use Rattle.table.specs.Limits.{Limits}
@@ -26,6 +28,24 @@ pub data Call : Type 0 where
   Close : ℕ → ℕ → Call
   -- bytes given, bytes of the storage
   Take : ℕ → ℕ → Call
+
+-- what a call is to Whose and Claims: they read off it all that they ask of a call
+pub record Shape : Type 0 where
+  -- the SID that it names
+  pub names : Option ℕ
+  -- the payload that it offers
+  pub offers : Option (List ℕ)
+  -- it begins a session, hands over a payload, takes a packet
+  pub opens : Bool
+  pub reads : Bool
+  pub takes : Bool
+
+abbrev pub shape : Call → Shape
+shape (Open room) = record { names = none; offers = none; opens = true; reads = false; takes = false }
+shape (Send sid payload room) = record { names = some sid; offers = some payload; opens = false; reads = false; takes = false }
+shape (Read sid room ack lent) = record { names = some sid; offers = none; opens = false; reads = true; takes = false }
+shape (Close sid room) = record { names = some sid; offers = none; opens = false; reads = false; takes = false }
+shape (Take given lent) = record { names = none; offers = none; opens = false; reads = false; takes = true }
 
 pub record Step : Type 0 where
   pub side : Side

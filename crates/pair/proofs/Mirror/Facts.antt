@@ -92,7 +92,7 @@ module _ {slots : ℕ} {lim : Limits} {x : Scene} {W : World} (m : Mirror slots 
       subst (λ (l : ℕ). Stands lim (f .index) (x .world k .storage) (slot (x .world k) (f .index)) (W .sid l) (stOf k (W .lanes l)) (half k (W .lanes l)))
       (f .owner) (m .at k .filled (f .index) (f .within) (f .used) .stands)
 
-  pub named-is : (n : ℕ) → T (has n (W .table k)) → named (W .sid n) (x .world k) (x .book .notes k) ≡ some n
+  pub named-is : (n : ℕ) → T (has n (W .table k)) → named (some (W .sid n)) (x .world k) (x .book .notes k) ≡ some n
   named-is n t =
       let f = m .at k .found n t in
       let a = lane-at n t f in

@@ -9,7 +9,7 @@ use mathlib.Core.Path.{_≡_, refl, sym, ap, _∙_}
 use mathlib.Core.Logic.{_⊎_, inl, inr}
 use mathlib.Core.Bool.{Bool, true, false}
 use mathlib.Core.List.{List, [], _∷_, _++_}
-use mathlib.Core.Option.{none}
+use mathlib.Core.Option.{none, some}
 use lib.ListN.{length, take, take-append-drop}
 use lib.Dec.{T, eqb}
 use borrow.Author.Tests.{lt-ltb}
@@ -93,7 +93,7 @@ module _ {slots : ℕ} {lim : Limits} {x : Scene} {W : World} (m : Mirror slots 
     p = x .world k
 
     -- whose it is, where no slot holds the SID
-    nobody : holds sid (p .end .slots) ≡ false → named sid p (x .book .notes k) ≡ none
+    nobody : holds sid (p .end .slots) ≡ false → named (some sid) p (x .book .notes k) ≡ none
     nobody h = rw h
 
     sends : (payload : List ℕ) (room : ℕ) (b : Bool) → holds sid (p .end .slots) ≡ b → Comes slots lim x W k (Send sid payload room)

@@ -2,17 +2,21 @@
 use Prim.Native.Nat.{ℕ, _<_}
 use native.Mathlib.Omega.{arith}
 use mathlib.Core.Path.{_≡_, refl, sym, ap, _∙_, subst}
+use mathlib.Core.Bool.{Bool, true, false, _&&_, _||_}
 use mathlib.Core.List.{List, append-nil}
 use mathlib.Core.Option.{Option, none}
 use lib.ListN.{length}
-use lib.Dec.{T}
+use lib.Dec.{T, eqb}
+use Rattle.cases.specs.Cases.{if}
 use Rattle.cases.proofs.First.{done-not}
+use Rattle.wire.specs.declared.kind.Kind.the-variants.{Syn}
+use Rattle.wire.specs.Packet.{flagsValue}
 use Rattle.table.specs.Limits.{Limits}
 use Rattle.pair.specs.Side.{Side, other}
 use Rattle.pair.proofs.Lane.Outcomes.{harmless}
 use Rattle.pair.proofs.Lane.World.{World}
 use Rattle.pair.specs.World.{Party, with}
-use Rattle.pair.specs.Step.{Call, Open, Send, Read, Close, Take, Step, Reply, Done, did, acted, reached, taking}
+use Rattle.pair.specs.Step.{Call, shape, Step, Reply, Done, did, acted, reached, taking}
 use Rattle.pair.specs.Whose.{Marked, left, owners, counted, noted}
 use Rattle.pair.specs.History.{Scene, whoseIn}
 use Rattle.pair.proofs.Mirror.Scene.{Mirror}
@@ -26,26 +30,20 @@ mirror-same w b o m = record { sizes = m .sizes; inv = m .inv; at = λ k. rw (w 
 
 -- ---- the book after a refusal
 
-left-refused : (c : Call) (r : Reply) (ms : List Marked) → 0 < r .number → left c r ms ≡ ms
-left-refused (Open room) r ms h = refl
-left-refused (Send sid payload room) r ms h = refl
-left-refused (Read sid room ack lent) r ms h = refl
-left-refused (Close sid room) r ms h = refl
-left-refused (Take given lent) r ms h = done-not (r .number) _ _ h
+-- where both sides are one
+if-same : {A : Type 0} (b : Bool) {a c : A} → a ≡ c → if b a c ≡ c
+if-same true e = e
+if-same false e = refl
 
-owners-refused : (c : Call) (p : Party) (who : Option ℕ) (r : Reply) (owner : ℕ → ℕ) → 0 < r .number → owners c p who r owner ≡ owner
-owners-refused (Open room) p who r owner h = done-not (r .number) _ _ h
-owners-refused (Send sid payload room) p who r owner h = refl
-owners-refused (Read sid room ack lent) p who r owner h = refl
-owners-refused (Close sid room) p who r owner h = refl
-owners-refused (Take given lent) p who r owner h = done-not (r .number) _ _ h
+module _ (c : Call) (r : Reply) (h : 0 < r .number) where
+  left-refused : (ms : List Marked) → left c r ms ≡ ms
+  left-refused ms = if-same (shape c .takes) (done-not (r .number) _ _ h)
 
-counted-refused : (c : Call) (r : Reply) (n : ℕ) → 0 < r .number → counted c r n ≡ n
-counted-refused (Open room) r n h = done-not (r .number) _ _ h
-counted-refused (Send sid payload room) r n h = refl
-counted-refused (Read sid room ack lent) r n h = refl
-counted-refused (Close sid room) r n h = refl
-counted-refused (Take given lent) r n h = refl
+  owners-refused : (p : Party) (who : Option ℕ) (owner : ℕ → ℕ) → owners c p who r owner ≡ owner
+  owners-refused p who owner = if-same (shape c .opens || (shape c .takes && eqb (r .kind) (flagsValue Syn))) (done-not (r .number) _ _ h)
+
+  counted-refused : (n : ℕ) → counted c r n ≡ n
+  counted-refused n = if-same (shape c .opens) (done-not (r .number) _ _ h)
 
 -- ---- the step
 
@@ -78,15 +76,15 @@ module _ {slots : ℕ} {lim : Limits} {x : Scene} {W : World} (m : Mirror slots 
   same-notes =
       sides (λ k. scene d .book .notes k ≡ x .book .notes k) (s .side)
       (with-own (s .side) _ _ (x .book .notes) ∙ rw (
-        left-refused (s .call) (d .reply) (x .book .notes (s .side) .coming) (omega arith),
-        owners-refused (s .call) (x .world (s .side)) (whoseIn lim x s) (d .reply) (x .book .notes (s .side) .owner) (omega arith),
+        left-refused (s .call) (d .reply) (omega arith) (x .book .notes (s .side) .coming),
+        owners-refused (s .call) (d .reply) (omega arith) (x .world (s .side)) (whoseIn lim x s) (x .book .notes (s .side) .owner),
       ))
       (with-other (s .side) _ _ (x .book .notes) ∙ rw append-nil)
 
   pub rests : Rested slots lim x W s
   rests = record {
     mirror = mirror-same (λ k. ap (λ (d : Done). scene d .world k) is ∙ same-world k) (λ k. ap (λ (d : Done). scene d .book .notes k) is ∙ same-notes k)
-        (ap (λ (d : Done). scene d .book .opened) is ∙ counted-refused (s .call) (d .reply) (x .book .opened) (omega arith)) m;
+        (ap (λ (d : Done). scene d .book .opened) is ∙ counted-refused (s .call) (d .reply) (omega arith) (x .book .opened)) m;
     whose = who;
     refused = λ q. omega (arith, number);
     mild = subst (λ (a : ℕ). T (harmless a)) (sym number) mild;
