@@ -56,7 +56,7 @@ module _ {slots : ℕ} {lim : Limits} (k : Side) (n : ℕ) where
       → T (ended (stOf k (ends W t .lanes n)))
   unfolding history
   run-ended (over m) u = absurd u
-  run-ended (rests m r l) (inl u) = absurd (r .refused (u .number))
+  run-ended (rests m r l) (inl u) = absurd (r .refused (u .take) (u .number))
   run-ended (rests m r l) (inr u) = run-ended l u
   run-ended {W = W} {t = a ∷ t} (acts m p d l) (inl u) =
       rw (isolated-lane n t (act a W)) (final-ended k (act a W .lanes n) (stepsOf n t) (taken-ended m p d u))

@@ -114,5 +114,5 @@ module _ {slots : ℕ} {lim : Limits} where
       → Every (λ (e : Entry). IsTake (e .step .call) → e .reply .number ≡ 0 → OwnSlot (lim .place) e) (history lim x ss)
   unfolding history
   run-filed (over m) = tt
-  run-filed (rests m r l) = (λ t n. absurd (r .refused n), run-filed l)
+  run-filed (rests m r l) = (λ t n. absurd (r .refused t n), run-filed l)
   run-filed (acts m p d l) = (λ t n. act-filed m p d t, run-filed l)

@@ -66,7 +66,7 @@ module _ {slots : ℕ} {lim : Limits} {x : Scene} {W : World} (m : Mirror slots 
 
     open-rests : (n : ℕ) → 0 < n → T (harmless n) → first (openOn (e .role) (full (e .slots)) room) ≡ n
         → Rested slots lim x W (record { side = k; call = Open room })
-    open-rests n low mild q = rests m (record { side = k; call = Open room }) n 0 low mild (rw (answer, packet)) (rw answer (done-not n _ none (omega arith)))
+    open-rests n low mild q = rests m (record { side = k; call = Open room }) n 0 (λ _. low) mild (rw (answer, packet)) (rw answer (done-not n _ none (omega arith)))
       where
         answer : openOf lim e room ≡ openRefused n e
         answer = open-answer lim e (made-at m k) (m .at k .up) room ∙ rw q (done-not n _ _ (omega arith))
@@ -98,7 +98,7 @@ module _ {slots : ℕ} {lim : Limits} {x : Scene} {W : World} (m : Mirror slots 
 
     sends : (payload : List ℕ) (room : ℕ) (b : Bool) → holds sid (p .end .slots) ≡ b → Comes slots lim x W k (Send sid payload room)
     sends payload room true h = inr (_, sending (held-lane m k sid h))
-    sends payload room false h = inl (rests m (record { side = k; call = Send sid payload room }) 4 0 (omega arith) tt
+    sends payload room false h = inl (rests m (record { side = k; call = Send sid payload room }) 4 0 (λ _. omega arith) tt
         (rw (
           send-none-answer lim (p .end) (made-at m k) (m .at k .up) sid h payload room,
           send-none-packet lim (p .end) (made-at m k) (m .at k .up) sid h payload room,
@@ -106,7 +106,7 @@ module _ {slots : ℕ} {lim : Limits} {x : Scene} {W : World} (m : Mirror slots 
 
     reads : (room ack lent : ℕ) (b : Bool) → holds sid (p .end .slots) ≡ b → Comes slots lim x W k (Read sid room ack lent)
     reads room ack lent true h = inr (_, reading (held-lane m k sid h))
-    reads room ack lent false h = inl (rests m (record { side = k; call = Read sid room ack lent }) 4 0 (omega arith) tt
+    reads room ack lent false h = inl (rests m (record { side = k; call = Read sid room ack lent }) 4 0 (λ _. omega arith) tt
         (rw (
           read-none-answer lim (p .end) (made-at m k) (m .at k .up) sid h room ack (length (take lent (p .storage))),
           read-none-payload lim (p .end) (made-at m k) (m .at k .up) sid h room ack (take lent (p .storage)),
@@ -115,7 +115,7 @@ module _ {slots : ℕ} {lim : Limits} {x : Scene} {W : World} (m : Mirror slots 
 
     closes : (room : ℕ) (b : Bool) → holds sid (p .end .slots) ≡ b → Comes slots lim x W k (Close sid room)
     closes room true h = inr (_, closing (held-lane m k sid h))
-    closes room false h = inl (rests m (record { side = k; call = Close sid room }) 4 0 (omega arith) tt
+    closes room false h = inl (rests m (record { side = k; call = Close sid room }) 4 0 (λ _. omega arith) tt
         (rw (
           close-none-answer lim (p .end) (made-at m k) (m .at k .up) sid h room,
           close-none-packet lim (p .end) (made-at m k) (m .at k .up) sid h room,
@@ -137,7 +137,7 @@ module _ {slots : ℕ} {lim : Limits} {x : Scene} {W : World} (m : Mirror slots 
     take-rests b n =
         let bytes = take given (q .coming) in
         rests m (record { side = k; call = Take given lent }) (if b 9 10) (if (eqb (if b 9 10) 10) (missing bytes) 0)
-        (either (λ (n : ℕ). 0 < n) b (omega arith) (omega arith)) (either (λ (n : ℕ). T (harmless n)) b tt tt)
+        (λ _. either (λ (n : ℕ). 0 < n) b (omega arith) (omega arith)) (either (λ (n : ℕ). T (harmless n)) b tt tt)
         (rw (
           waits-answer lim (q .end) bytes (length (take lent (q .storage))) b n,
           waits-storage lim (q .end) bytes (take lent (q .storage)) b n,

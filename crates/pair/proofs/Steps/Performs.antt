@@ -23,6 +23,7 @@ use Rattle.pair.specs.World.{Party}
 use Rattle.pair.specs.Step as step
 use Rattle.pair.specs.Step.{Open, Send, Read, Close, Take, Step, Reply, emitting}
 use Rattle.pair.specs.History.{Scene, entry}
+use Rattle.pair.specs.Claims.{IsTake}
 use Rattle.pair.proofs.Bytes.Encoded.{kindOf, packetFor, synFor, emitted, handed}
 use Rattle.pair.proofs.Mirror.Scene.{Mirror}
 use Rattle.pair.proofs.Mirror.Facts.{tooShort, Names}
@@ -104,6 +105,6 @@ pub record Acted (slots : ℕ) (lim : Limits) (x : Scene) (W : World) (s : Step)
 pub record Rested (slots : ℕ) (lim : Limits) (x : Scene) (W : World) (s : Step) : Type 0 where
   pub mirror : Mirror slots lim (entry lim x s .after) W
   pub whose : entry lim x s .whose ≡ none
-  pub refused : entry lim x s .reply .number ≢ 0
+  pub refused : IsTake (s .call) → entry lim x s .reply .number ≢ 0
   pub mild : T (harmless (entry lim x s .reply .number))
   pub lengths : Lengths x (entry lim x s .after)
