@@ -26,11 +26,13 @@ use Rattle.table.specs.Limits.{Limits}
 use Rattle.send.specs.Send.{sendCases, dataHeader}
 use Rattle.read.specs.Read.{oldestLength, readCases, ackHeader, ackOn, oldestIn}
 use Rattle.close.specs.Close.{closeCases, finHeader}
-use Rattle.pair.proofs.Lane.Half.{Bytes, St, est, fs, fr, gone, Body, sOf, gOf, dat, Out, Room, sent, shut, tight, send, fin, ending, close, ack, later}
+use Rattle.pair.proofs.Lane.Half.{Bytes, St, est, fs, fr, gone, Body, sOf, gOf, rOf, dat, Out, Room, sent, shut, tight, send, fin, ending, close, ack}
+use Rattle.pair.proofs.Lane.Half.{later}
 use Rattle.pair.proofs.Lane.Half.{cramped, readOne, readLast, readE, readR, read}
 use Rattle.pair.proofs.Lane.Inv.{Ranges}
 use Rattle.pair.proofs.Bytes.Encoded.{packetFor, headerFor, handed}
-use Rattle.pair.proofs.Record.Stands.{stateOf, Stands, turned-stands, unread-counts, Lies, lies-place}
+use Rattle.pair.proofs.Record.Stands.{stateOf, Stands, s-is, h-is, r-is, g-is, s-becomes, r-becomes, g-becomes, turned-stands, unread-counts, Lies}
+use Rattle.pair.proofs.Record.Stands.{lies-place}
 use Rattle.pair.proofs.Record.Does.{stands, Done, Does, does-skip, does-stop, does-test, does-done, freed}
 
 -- the headers of two packets of one kind and length
@@ -42,23 +44,19 @@ header-counts k n a b c = cc
 module _ {lim : Limits} {i : ℕ} {storage : List ℕ} {x : Session} {sid : ℕ} {B : Body} where
   -- the next SEQNUM
   next : {st : St} → Stands lim i storage x sid st B → plus (x .s) 1 ≡ suc (sOf B) % 2 ^ 32
-  next a = rw (a .s) (plus-counts (sOf B) 1 ∙ ap (λ (n : ℕ). n % 2 ^ 32) (omega arith))
+  next a = rw (s-is a) (plus-counts (sOf B) 1 ∙ ap (λ (n : ℕ). n % 2 ^ 32) (omega arith))
 
   sent-stands : Stands lim i storage x sid est B → (p : Bytes) → Stands lim i storage (sentOn x) sid est (sent B p .body)
   sent-stands a p = record {
     sid = a .sid;
     state = a .state;
-    s = next a ∙ ap (λ (n : ℕ). n % 2 ^ 32) (omega (arith, length-append (B .acc) (p ∷ [])));
-    h = a .h;
-    r = a .r;
-    g = a .g;
-    four = a .four;
-    small = a .small;
+    counts = s-becomes (next a ∙ ap (λ (n : ℕ). n % 2 ^ 32) (omega (arith, length-append (B .acc) (p ∷ [])))) (a .counts);
+    lengths = a .lengths;
     ring = a .ring;
   }
 
   sent-packet : Stands lim i storage x sid est B → (p : Bytes) → packetBytes (dataHeader x (length p)) p ≡ packetFor sid (dat (suc (sOf B)) (gOf B) p)
-  sent-packet a p = ap (λ (h : Header). packetBytes h p) (header-counts Data (headerLength + length p) (a .sid) (next a) (a .g))
+  sent-packet a p = ap (λ (h : Header). packetBytes h p) (header-counts Data (headerLength + length p) (a .sid) (next a) (g-is a))
 
   pub send-does : (s : St) → Stands lim i storage x sid s B → Ranges B → inUse (stateOf s) ≡ true → (p : Bytes) (R : Room)
       → R .big ≡ ltb (lim .place) (length p)
@@ -67,7 +65,7 @@ module _ {lim : Limits} {i : ℕ} {storage : List ℕ} {x : Session} {sid : ℕ}
   send-does est a b u p R big =
       does-skip (ap (λ (st : State). not (established st)) (a .state))
       (does-test (R .big) _ (sym big) (omega arith)
-      (does-test (shut B) _ (rw (a .s, a .h) (same-counts (sOf B) (B .high) (b .fit) (b .high))) (omega arith)
+      (does-test (shut B) _ (rw (s-is a, h-is a) (same-counts (sOf B) (B .high) (b .fit) (b .high))) (omega arith)
       (does-test (tight R p) _ refl (omega arith)
       (does-done (sent B p) refl (record { after = stands refl (sent-stands a p); packet = sent-packet a p; payload = refl })))))
   send-does fs a b u p R big = does-stop (ap (λ (st : State). not (established st)) (a .state)) (omega arith)
@@ -78,7 +76,7 @@ module _ {lim : Limits} {i : ℕ} {storage : List ℕ} {x : Session} {sid : ℕ}
 
 module _ {lim : Limits} {i : ℕ} {storage : List ℕ} {x : Session} {sid : ℕ} {B : Body} where
   closed-packet : {s : St} → Stands lim i storage x sid s B → headerBytes (finHeader x) ≡ packetFor sid (fin (sOf B) (gOf B))
-  closed-packet a = ap headerBytes (header-counts Fin headerLength (a .sid) (a .s) (a .g))
+  closed-packet a = ap headerBytes (header-counts Fin headerLength (a .sid) (s-is a) (g-is a))
       ∙ sym (append-nil (headerBytes (headerFor sid (fin (sOf B) (gOf B)))))
 
   pub close-does : (s : St) → Stands lim i storage x sid s B → inUse (stateOf s) ≡ true → (R : Room)
@@ -117,12 +115,12 @@ module _ {lim : Limits} {i : ℕ} {storage : List ℕ} {x : Session} {sid : ℕ}
   module _ {st : St} (a : Stands lim i storage x sid st B) where
     -- G after the read
     later-g : (p : Bytes) (u : List Bytes) → plus (x .g) 1 ≡ gOf (later B p u) % 2 ^ 32
-    later-g p u = rw (a .g) (plus-counts (gOf B) 1 ∙ ap (λ (n : ℕ). n % 2 ^ 32) (omega (arith, length-append (B .got) (p ∷ []))))
+    later-g p u = rw (g-is a) (plus-counts (gOf B) 1 ∙ ap (λ (n : ℕ). n % 2 ^ 32) (omega (arith, length-append (B .got) (p ∷ []))))
 
     -- the place of the oldest
     oldest-place : place (oldest x) ≡ place (length (B .got) + 1 + 0)
     oldest-place =
-        ap (λ (n : ℕ). place (minus n 3)) (a .g ∙ ap (λ (n : ℕ). n % 2 ^ 32) (omega arith))
+        ap (λ (n : ℕ). place (minus n 3)) (g-is a ∙ ap (λ (n : ℕ). n % 2 ^ 32) (omega arith))
         ∙ ap place (back-counts (length (B .got) + 1 + 0) 3 (omega arith))
         ∙ place-counts (length (B .got) + 1 + 0)
 
@@ -142,15 +140,14 @@ module _ {lim : Limits} {i : ℕ} {storage : List ℕ} {x : Session} {sid : ℕ}
       read-stands = record {
         sid = a .sid;
         state = a .state;
-        s = a .s;
-        h = a .h;
-        r = a .r ∙ ap (λ (n : ℕ). n % 2 ^ 32) (omega (arith, length-append (B .got) (p ∷ []), ap length e));
-        g = later-g p u;
-        four = a .four;
-        small = a .small;
+        counts = g-becomes (later-g p u) (r-becomes same-r (a .counts));
+        lengths = a .lengths;
         ring = ring;
       }
         where
+          same-r : x .r ≡ rOf (later B p u) % 2 ^ 32
+          same-r = r-is a ∙ ap (λ (n : ℕ). n % 2 ^ 32) (omega (arith, length-append (B .got) (p ∷ []), ap length e))
+
           ring : (j : ℕ) → j < length u → Lies lim i storage (x .lens) (length (B .got ++ (p ∷ [])) + 1 + j) (getD u j [])
           ring j h =
               let n : length (B .got) + 1 + suc j ≡ length (B .got ++ (p ∷ [])) + 1 + j = omega (arith, length-append (B .got) (p ∷ [])) in
@@ -198,7 +195,7 @@ module _ {lim : Limits} {i : ℕ} {storage : List ℕ} {x : Session} {sid : ℕ}
       packet : ackOn x ≡ packetFor sid (ack (sOf B) (gOf (later B p u)))
       packet =
           emits a
-          ∙ ap headerBytes (header-counts Ack headerLength (a .sid) (a .s) (later-g a p u))
+          ∙ ap headerBytes (header-counts Ack headerLength (a .sid) (s-is a) (later-g a p u))
           ∙ sym (append-nil (headerBytes (headerFor sid (ack (sOf B) (gOf (later B p u))))))
 
   read-fr : (R : Room) → Ranges B → Stands lim i storage x sid fr B → (l : List Bytes) → B .unread ≡ l

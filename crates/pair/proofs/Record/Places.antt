@@ -29,12 +29,8 @@ pub stands-agree : {lim : Limits} {i : ℕ} {storage storage' : List ℕ} → Ag
 stands-agree {lim} {i} {storage} {storage'} g {B = B} a = record {
   sid = a .sid;
   state = a .state;
-  s = a .s;
-  h = a .h;
-  r = a .r;
-  g = a .g;
-  four = a .four;
-  small = a .small;
+  counts = a .counts;
+  lengths = a .lengths;
   ring = λ (j : ℕ) (h : j < length (B .unread)). record {
     long = a .ring j h .long;
     bytes = sym (place-agrees (lim .place) i storage storage' g (length (B .got) + 1 + j) (length (getD (B .unread) j [])) (unread-bound a j h))

@@ -5,8 +5,8 @@ use native.Mathlib.Omega.{arith}
 use native.Mathlib.Nat.{mod-lt}
 use mathlib.Core.Path.{_≡_, refl, sym, ap, _∙_}
 use mathlib.Core.Bool.{true, false}
-use mathlib.Core.List.{List, []}
-use lib.ListN.{length, getD, take, drop, getD-replicate}
+use mathlib.Core.List.{List, [], _∷_}
+use lib.ListN.{length, getD, set, take, drop, getD-replicate}
 use lib.Dec.{T}
 use Rattle.cases.proofs.Tests.{never}
 use Rattle.session.specs.declared.record.State.{State}
@@ -63,17 +63,63 @@ pub record Lies (lim : Limits) (i : ℕ) (storage lens : List ℕ) (q : ℕ) (p 
   pub long : getD lens (place q) 0 ≡ length p
   pub bytes : take (length p) (drop (placeStart (lim .place) i q) storage) ≡ p
 
+-- the counters of a record, one after the other, and what they are for a half. A new counter is one more in both; what a step doesn't change
+-- of them needs no word, since both lists compute.
+abbrev pub counters : Session → List ℕ
+counters x = x .s ∷ x .h ∷ x .r ∷ x .g ∷ []
+
+abbrev pub wrapped : Body → List ℕ
+wrapped B = sOf B % 2 ^ 32 ∷ B .high % 2 ^ 32 ∷ rOf B % 2 ^ 32 ∷ gOf B % 2 ^ 32 ∷ []
+
+-- the four lengths
+pub record Lengths (lim : Limits) (lens : List ℕ) : Type 0 where
+  pub four : length lens ≡ 4
+  pub small : (k : ℕ) → k < 4 → getD lens k 0 ≤ lim .place
+
+-- the payloads unread lie in their places
+abbrev pub Ring : Limits → ℕ → List ℕ → List ℕ → Body → Type 0
+Ring lim i storage lens B = (j : ℕ) → j < length (B .unread) → Lies lim i storage lens (length (B .got) + 1 + j) (getD (B .unread) j [])
+
 -- the record x of slot i stands under the SID `name` for the half st, B
 pub record Stands (lim : Limits) (i : ℕ) (storage : List ℕ) (x : Session) (name : ℕ) (st : St) (B : Body) : Type 0 where
   pub sid : x .sid ≡ name
   pub state : x .state ≡ stateOf st
-  pub s : x .s ≡ sOf B % 2 ^ 32
-  pub h : x .h ≡ B .high % 2 ^ 32
-  pub r : x .r ≡ rOf B % 2 ^ 32
-  pub g : x .g ≡ gOf B % 2 ^ 32
-  pub four : length (x .lens) ≡ 4
-  pub small : (k : ℕ) → k < 4 → getD (x .lens) k 0 ≤ lim .place
-  pub ring : (j : ℕ) → j < length (B .unread) → Lies lim i storage (x .lens) (length (B .got) + 1 + j) (getD (B .unread) j [])
+  pub counts : counters x ≡ wrapped B
+  pub lengths : Lengths lim (x .lens)
+  pub ring : Ring lim i storage (x .lens) B
+
+-- ---- one counter: what it is, and the counters where it becomes another
+
+counted : (n : ℕ) {l m : List ℕ} → l ≡ m → getD l n 0 ≡ getD m n 0
+counted n e = ap (λ (l : List ℕ). getD l n 0) e
+
+becomes : (n : ℕ) {a b : ℕ} {l m : List ℕ} → a ≡ b → l ≡ m → set l n a ≡ set m n b
+becomes n e f = cc
+
+module _ {lim : Limits} {i : ℕ} {storage : List ℕ} {x : Session} {sid : ℕ} {st : St} {B : Body} (a : Stands lim i storage x sid st B) where
+  pub s-is : x .s ≡ sOf B % 2 ^ 32
+  s-is = counted 0 (a .counts)
+
+  pub h-is : x .h ≡ B .high % 2 ^ 32
+  h-is = counted 1 (a .counts)
+
+  pub r-is : x .r ≡ rOf B % 2 ^ 32
+  r-is = counted 2 (a .counts)
+
+  pub g-is : x .g ≡ gOf B % 2 ^ 32
+  g-is = counted 3 (a .counts)
+
+pub s-becomes : {a b : ℕ} {l m : List ℕ} → a ≡ b → l ≡ m → set l 0 a ≡ set m 0 b
+s-becomes e f = becomes 0 e f
+
+pub h-becomes : {a b : ℕ} {l m : List ℕ} → a ≡ b → l ≡ m → set l 1 a ≡ set m 1 b
+h-becomes e f = becomes 1 e f
+
+pub r-becomes : {a b : ℕ} {l m : List ℕ} → a ≡ b → l ≡ m → set l 2 a ≡ set m 2 b
+r-becomes e f = becomes 2 e f
+
+pub g-becomes : {a b : ℕ} {l m : List ℕ} → a ≡ b → l ≡ m → set l 3 a ≡ set m 3 b
+g-becomes e f = becomes 3 e f
 
 -- a place goes by its SEQNUM modulo 4
 pub lies-place : {lim : Limits} {i : ℕ} {storage lens : List ℕ} (q q' : ℕ) {p : Bytes} → place q ≡ place q' → Lies lim i storage lens q' p
@@ -86,7 +132,8 @@ lies-place {lim} {i} {storage} {lens} q q' {p} e a = record {
 -- an unread payload is no longer than its place
 pub unread-bound : {lim : Limits} {i : ℕ} {storage : List ℕ} {x : Session} {sid : ℕ} {st : St} {B : Body} → Stands lim i storage x sid st B
     → (j : ℕ) → j < length (B .unread) → length (getD (B .unread) j []) ≤ lim .place
-unread-bound {B = B} a j h = omega (arith, a .ring j h .long, a .small (place (length (B .got) + 1 + j)) (mod-lt (length (B .got) + 1 + j) (omega arith)))
+unread-bound {B = B} a j h = omega
+    (arith, a .ring j h .long, a .lengths .small (place (length (B .got) + 1 + j)) (mod-lt (length (B .got) + 1 + j) (omega arith)))
 
 -- ---- a fresh record
 
@@ -94,12 +141,8 @@ pub fresh-stands : (lim : Limits) (i : ℕ) (storage : List ℕ) (sid : ℕ) →
 fresh-stands lim i storage sid = record {
   sid = refl;
   state = refl;
-  s = refl;
-  h = refl;
-  r = refl;
-  g = refl;
-  four = refl;
-  small = λ k h. omega (arith, getD-replicate {A = ℕ} 4 k 0 0 h);
+  counts = refl;
+  lengths = record { four = refl; small = λ k h. omega (arith, getD-replicate {A = ℕ} 4 k 0 0 h) };
   ring = λ j h. absurd (omega arith);
 }
 
@@ -107,17 +150,7 @@ fresh-stands lim i storage sid = record {
 
 pub turned-stands : {lim : Limits} {i : ℕ} {storage : List ℕ} {x : Session} {sid : ℕ} {st : St} {B : Body} (t : St) → Stands lim i storage x sid st B
     → Stands lim i storage (withState (stateOf t) x) sid t B
-turned-stands t a = record {
-  sid = a .sid;
-  state = refl;
-  s = a .s;
-  h = a .h;
-  r = a .r;
-  g = a .g;
-  four = a .four;
-  small = a .small;
-  ring = a .ring;
-}
+turned-stands t a = record { sid = a .sid; state = refl; counts = a .counts; lengths = a .lengths; ring = a .ring }
 
 -- ---- in use, and its counters' differences over numbers that don't wrap
 
@@ -128,17 +161,17 @@ stands-used a u = ap inUse (a .state) ∙ u
 module _ {lim : Limits} {i : ℕ} {storage : List ℕ} {x : Session} {sid : ℕ} {st : St} {B : Body} (a : Stands lim i storage x sid st B) (b : Ranges B) where
   -- what the peer still lets us send
   pub window-counts : minus (x .h) (x .s) ≡ B .high - sOf B
-  window-counts = rw (a .h, a .s) (minus-counts (sOf B) (B .high) (b .fit) (omega (arith, b .high)))
+  window-counts = rw (h-is a, s-is a) (minus-counts (sOf B) (B .high) (b .fit) (omega (arith, b .high)))
 
   pub whole-window : B .high ≡ sOf B + window → minus (x .h) (x .s) ≡ window
   whole-window e = window-counts ∙ omega arith
 
   -- what we still let the peer send
   pub room-counts : minus (x .g) (x .r) ≡ gOf B - rOf B
-  room-counts = rw (a .g, a .r) (minus-counts (rOf B) (gOf B) (b .room) (omega arith))
+  room-counts = rw (g-is a, r-is a) (minus-counts (rOf B) (gOf B) (b .room) (omega arith))
 
   waiting : minus (plus (x .r) window) (x .g) ≡ length (B .unread)
-  waiting = rw (a .g, a .r, plus-counts (rOf B) window) (minus-counts (gOf B) (rOf B + window) (omega arith) (omega (arith, b .room)) ∙ omega arith)
+  waiting = rw (g-is a, r-is a, plus-counts (rOf B) window) (minus-counts (gOf B) (rOf B + window) (omega arith) (omega (arith, b .room)) ∙ omega arith)
 
   -- the packets unread, in ESTABLISHED and in FIN RECEIVED
   pub unread-counts : finSent (stateOf st) ≡ false → inUse (stateOf st) ≡ true → unread x ≡ length (B .unread)
@@ -153,6 +186,6 @@ module _ {lim : Limits} {i : ℕ} {storage : List ℕ} {x : Session} {sid : ℕ}
   -- it is in order
   pub stands-order : window ≤ lim .window → inUse (stateOf st) ≡ true → InOrder (lim .window) (lim .place) x
   stands-order wide u = record {
-    used = λ _. record { send = omega (arith, window-counts, b .high); receive = omega (arith, room-counts); lengths = a .small };
+    used = λ _. record { send = omega (arith, window-counts, b .high); receive = omega (arith, room-counts); lengths = a .lengths .small };
     free = λ e. never (sym e ∙ stands-used a u);
   }

@@ -36,7 +36,8 @@ use Rattle.pair.proofs.Lane.Half.{Bytes, St, est, fs, fr, gone, Packet,
 use Rattle.pair.proofs.Lane.Half.{stored, raised, take, seqnumOf, wndwOf}
 use Rattle.pair.proofs.Lane.Inv.{Ranges}
 use Rattle.pair.proofs.Bytes.Encoded.{kindOf, payloadOf, headerFor, packetFor, packet-size}
-use Rattle.pair.proofs.Record.Stands.{stateOf, Stands, turned-stands, window-counts, room-counts, Lies, lies-place, unread-bound}
+use Rattle.pair.proofs.Record.Stands.{stateOf, Stands, s-is, r-is, g-is, h-becomes, r-becomes, turned-stands, window-counts, room-counts, Lies}
+use Rattle.pair.proofs.Record.Stands.{lies-place, unread-bound}
 use Rattle.pair.proofs.Record.Places.{Lent, lies-stored, lies-kept}
 use Rattle.pair.proofs.Record.Does.{After, stands, freed}
 
@@ -78,7 +79,7 @@ module _ {lim : Limits} {i : ℕ} {storage : List ℕ} {x : Session} {sid : ℕ}
         let low : B .high ≤ v = leb-true (B .high) v (both .0) in
         let top : v ≤ sOf B + 4 = leb-true v (sOf B + 4) (both .1) in
         let now = window-counts a b in
-        let new : minus (v % 2 ^ 32) (x .s) ≡ v - sOf B = rw (a .s) (minus-counts (sOf B) v (omega (arith, b .fit)) (omega arith)) in
+        let new : minus (v % 2 ^ 32) (x .s) ≡ v - sOf B = rw (s-is a) (minus-counts (sOf B) v (omega (arith, b .fit)) (omega arith)) in
         and-both _ _
         (le-leb (minus (x .h) (x .s)) (minus (v % 2 ^ 32) (x .s)) (omega arith))
         (le-leb (minus (v % 2 ^ 32) (x .s)) (lim .window) (omega arith))
@@ -90,7 +91,7 @@ module _ {lim : Limits} {i : ℕ} {storage : List ℕ} {x : Session} {sid : ℕ}
         let low : rOf B ≤ q = leb-true (rOf B) q (both .0) in
         let top : q ≤ gOf B = leb-true q (gOf B) (both .1) in
         let room = room-counts a b in
-        let ahead : minus (q % 2 ^ 32) (x .r) ≡ q - rOf B = rw (a .r) (minus-counts (rOf B) q low (omega arith)) in
+        let ahead : minus (q % 2 ^ 32) (x .r) ≡ q - rOf B = rw (r-is a) (minus-counts (rOf B) q low (omega arith)) in
         ap (λ (t : Bool). if t (eqb (q % 2 ^ 32) (plus (x .r) 1) && not (eqb (x .r) (x .g))) (leb (minus (q % 2 ^ 32) (x .r)) (minus (x .g) (x .r))))
         (ap (λ (t : State). isData k && established t) (a .state) ∙ f)
         ∙ le-leb (minus (q % 2 ^ 32) (x .r)) (minus (x .g) (x .r)) (omega arith)
@@ -103,8 +104,8 @@ module _ {lim : Limits} {i : ℕ} {storage : List ℕ} {x : Session} {sid : ℕ}
   data-passes : Stands lim i storage x sid est B → Ranges B → (q : ℕ) → Next B q → seqnumInRange x Data (q % 2 ^ 32) ≡ true
   unfolding seqnumInRange
   data-passes a b q n =
-      let next : q % 2 ^ 32 ≡ plus (x .r) 1 = rw (a .r, n .next, plus-counts (rOf B) 1) (ap (λ (m : ℕ). m % 2 ^ 32) (omega arith)) in
-      let room : eqb (x .r) (x .g) ≡ false = rw (a .r, a .g) (same-counts (rOf B) (gOf B) (b .room) (omega arith) ∙ lt-leb (gOf B) (rOf B) (n .room)) in
+      let next : q % 2 ^ 32 ≡ plus (x .r) 1 = rw (r-is a, n .next, plus-counts (rOf B) 1) (ap (λ (m : ℕ). m % 2 ^ 32) (omega arith)) in
+      let room : eqb (x .r) (x .g) ≡ false = rw (r-is a, g-is a) (same-counts (rOf B) (gOf B) (b .room) (omega arith) ∙ lt-leb (gOf B) (rOf B) (n .room)) in
       ap (λ (t : State). if (established t) (eqb (q % 2 ^ 32) (plus (x .r) 1) && not (eqb (x .r) (x .g)))
       (leb (minus (q % 2 ^ 32) (x .r)) (minus (x .g) (x .r))))
       (a .state)
@@ -146,17 +147,7 @@ Makes lim i storage x sid pk t o =
 
 module _ {lim : Limits} {i : ℕ} {storage : List ℕ} {x : Session} {sid : ℕ} {B : Body} where
   raised-stands : Stands lim i storage x sid est B → (v : ℕ) → Stands lim i storage (grantedOn (v % 2 ^ 32) x) sid est (raised B v)
-  raised-stands a v = record {
-    sid = a .sid;
-    state = a .state;
-    s = a .s;
-    h = refl;
-    r = a .r;
-    g = a .g;
-    four = a .four;
-    small = a .small;
-    ring = a .ring;
-  }
+  raised-stands a v = record { sid = a .sid; state = a .state; counts = h-becomes refl (a .counts); lengths = a .lengths; ring = a .ring }
 
   -- a payload p of n bytes, at the front of b, stored at the place of the next SEQNUM
   stored-stands : Stands lim i storage x sid est B → (q v : ℕ) (p : Bytes) → Next B q → (slots : ℕ) → i < slots
@@ -166,12 +157,8 @@ module _ {lim : Limits} {i : ℕ} {storage : List ℕ} {x : Session} {sid : ℕ}
   stored-stands a q v p nx slots slot long b n e limit enough f = record {
     sid = a .sid;
     state = a .state;
-    s = a .s;
-    h = refl;
-    r = ap (λ (m : ℕ). m % 2 ^ 32) (omega (arith, nx .next, length-append (B .unread) (p ∷ [])));
-    g = a .g;
-    four = length-set (x .lens) (place w) n ∙ a .four;
-    small = small;
+    counts = r-becomes new-r (h-becomes refl (a .counts));
+    lengths = record { four = length-set (x .lens) (place w) n ∙ a .lengths .four; small = small };
     ring = λ (j : ℕ) (h : j < length (B .unread ++ (p ∷ []))). ring j h (decLt j (length (B .unread)));
   }
     where
@@ -179,12 +166,15 @@ module _ {lim : Limits} {i : ℕ} {storage : List ℕ} {x : Session} {sid : ℕ}
       w : ℕ
       w = q % 2 ^ 32
 
+      new-r : w ≡ rOf (stored B v p) % 2 ^ 32
+      new-r = ap (λ (m : ℕ). m % 2 ^ 32) (omega (arith, nx .next, length-append (B .unread) (p ∷ [])))
+
       small : (k : ℕ) → k < 4 → getD (set (x .lens) (place w) n) k 0 ≤ lim .place
       small k h = by (eqb k (place w)) refl
         where
           by : (t : Bool) → eqb k (place w) ≡ t → getD (set (x .lens) (place w) n) k 0 ≤ lim .place
-          by true t = rw (eqb-true k (place w) t, getD-set-same (x .lens) (place w) n 0 (omega (arith, a .four))) limit
-          by false t = rw (getD-set-other (x .lens) (place w) k n 0 (eqb-false k (place w) t)) (a .small k h)
+          by true t = rw (eqb-true k (place w) t, getD-set-same (x .lens) (place w) n 0 (omega (arith, a .lengths .four))) limit
+          by false t = rw (getD-set-other (x .lens) (place w) k n 0 (eqb-false k (place w) t)) (a .lengths .small k h)
 
       ring : (j : ℕ) → j < length (B .unread ++ (p ∷ [])) → Dec (j < length (B .unread))
           → Lies lim i (paste storage (placeStart (lim .place) i w) b n) (set (x .lens) (place w) n) (length (B .got) + 1 + j)
@@ -199,7 +189,7 @@ module _ {lim : Limits} {i : ℕ} {storage : List ℕ} {x : Session} {sid : ℕ}
           let here : getD (B .unread ++ (p ∷ [])) j [] ≡ p = rw last (getD-append-seam (B .unread) p [] []) in
           rw here
           (lies-place (length (B .got) + 1 + j) w (ap place (omega (arith, nx .next)) ∙ sym (place-counts q))
-          (lies-stored lim slots i w storage b n slot long limit enough p (x .lens) (a .four) e f))
+          (lies-stored lim slots i w storage b n slot long limit enough p (x .lens) (a .lengths .four) e f))
 
   -- DATA in ESTABLISHED, as its bytes come
   stored-taken : Stands lim i storage x sid est B → (q v : ℕ) (p : Bytes) {slots : ℕ}

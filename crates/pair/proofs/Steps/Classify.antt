@@ -66,7 +66,8 @@ module _ {slots : ℕ} {lim : Limits} {x : Scene} {W : World} (m : Mirror slots 
 
     open-rests : (n : ℕ) → 0 < n → T (harmless n) → first (openOn (e .role) (full (e .slots)) room) ≡ n
         → Rested slots lim x W (record { side = k; call = Open room })
-    open-rests n low mild q = rests m (record { side = k; call = Open room }) n 0 (λ _. low) mild (rw (answer, packet)) (rw answer (done-not n _ none (omega arith)))
+    open-rests n low mild q = rests m (record { side = k; call = Open room }) n 0 (λ _. low) mild (rw (answer, packet))
+        (rw answer (done-not n _ none (omega arith)))
       where
         answer : openOf lim e room ≡ openRefused n e
         answer = open-answer lim e (made-at m k) (m .at k .up) room ∙ rw q (done-not n _ _ (omega arith))

@@ -85,7 +85,7 @@ module _ {slots : ℕ} {lim : Limits} {x : Scene} {W : World} (m : Mirror slots 
       ≡ oldestIn lim (f .index) (slot (x .world k) (f .index)) (x .world k .storage)
   oldest-front e =
       let s = slot (x .world k) (f .index) in
-      let small : oldestLength s ≤ lim .place = lane-stands m k n f .small (rec.place (oldest s)) (mod-lt (oldest s) (omega arith)) in
+      let small : oldestLength s ≤ lim .place = lane-stands m k n f .lengths .small (rec.place (oldest s)) (mod-lt (oldest s) (omega arith)) in
       let enough = ltb-false (min lent (length (x .world k .storage))) (storageLength (lim .place) slots) e in
       part-front (placeStart (lim .place) (f .index) (oldest s)) (oldestLength s) lent (x .world k .storage)
       (omega (arith, length-take lent (x .world k .storage), place-inside (lim .place) slots (f .index) (oldest s) (oldestLength s) small (f .within)))

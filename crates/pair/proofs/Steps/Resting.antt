@@ -83,7 +83,8 @@ refusal n missing = taking n 0 0 0 missing
 abbrev pub refused : ℕ → ℕ → Party → Done
 refused n missing p = record { reply = refusal n missing; end = p .end; storage = p .storage }
 
-module _ {slots : ℕ} {lim : Limits} {x : Scene} {W : World} (m : Mirror slots lim x W) (s : Step) (n missing : ℕ) (low : Booked (s .call) → 0 < n) (mild : T (harmless n))
+module _ {slots : ℕ} {lim : Limits} {x : Scene} {W : World} (m : Mirror slots lim x W) (s : Step) (n missing : ℕ) (low : Booked (s .call) → 0 < n)
+    (mild : T (harmless n))
     (is : did lim (s .call) (x .world (s .side)) ≡ refused n missing (x .world (s .side))) (who : whoseIn lim x s ≡ none) where
   -- the scene after a step that does d
   abbrev scene : Done → Scene
