@@ -13,7 +13,7 @@ use Rattle.cases.specs.Cases.{if, done}
 use Rattle.cases.proofs.First.{done-not}
 use Rattle.table.specs.Limits.{Limits}
 use Rattle.pair.specs.Side.{Side, client, server, other}
-use Rattle.pair.proofs.Lane.Half.{Bytes, Out}
+use Rattle.pair.proofs.Lane.Half.{Bytes, accOf, Out}
 use Rattle.pair.proofs.Lane.Outcomes.{send-all, read-all, close-all}
 use Rattle.pair.proofs.Lane.Lane as lane
 use Rattle.pair.proofs.Lane.Lane.{moved, stOf, half, Event, event, tookIf, took, gave, onlyAt, reads, Lane}
@@ -195,9 +195,9 @@ module _ {slots : ℕ} {lim : Limits} {x : Scene} {ss : List Step} {t : List Act
       ∙ ap (reads k) (sym (isolated n t dawn))
       ∙ sym (run-agrees n l .received k)
 
-  pub half-accepted : half k (ends dawn t .lanes n) .acc ≡ accepted k (own n (history lim x ss))
+  pub half-accepted : accOf (half k (ends dawn t .lanes n)) ≡ accepted k (own n (history lim x ss))
   half-accepted =
-      ap (λ (L : Lane). half k L .acc) (isolated-lane n t dawn)
+      ap (λ (L : Lane). accOf (half k L)) (isolated-lane n t dawn)
       ∙ accepted-is k (stepsOf n t)
       ∙ ap (lane.accepted k) (sym (isolated n t dawn))
       ∙ sym (run-agrees n l .accepted k)

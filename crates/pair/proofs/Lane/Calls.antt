@@ -6,10 +6,10 @@ use mathlib.Core.Bool.{Bool, true, false}
 use mathlib.Core.List.{List, [], _∷_, _++_, append-assoc, append-nil}
 use lib.ListN.{length, length-append}
 use lib.Dec.{T, nleb→lt, leb}
-use Rattle.pair.proofs.Lane.Half.{Bytes, Packet, St, est, fs, fr, gone, Body, sOf, gOf, Out, Room, refuse, send, sent, read, readOne, readLast}
+use Rattle.pair.proofs.Lane.Half.{Bytes, Packet, St, est, fs, fr, gone, Body, accOf, sOf, gOf, Out, Room, refuse, send, goes, read, readOne, readLast}
 use Rattle.pair.proofs.Lane.Half.{later, close, ending}
 use Rattle.pair.proofs.Lane.Outcomes.{send-all, read-all, close-all}
-use Rattle.pair.proofs.Lane.Lane.{Call, put, get, shut, push, took, gave, deliver}
+use Rattle.pair.proofs.Lane.Lane.{Call, put, get, shut, push, took, carried, gave, deliver}
 use Rattle.pair.proofs.Lane.Inv.{pays, pays-append, Flow, flow-push, closes, ended, keeps, Gate, News, Dir, Inv, arrived, silent, count}
 
 -- one more packet at the tail of a direction whose writer has not closed; its WNDW is the writer's G, which may have grown
@@ -45,14 +45,15 @@ module _ {sx : St} {sent : List Bytes} {g : ℕ} {l : List Packet} {s : St} {got
   dir-read {p} d = arrived d (d .lost) (d .w) (d .whole ∙ simp append-assoc) (d .low) (d .mid) (d .kept)
       (subst (λ (n : ℕ). Gate (ended s) (closes sx) n (d .w) l (d .t)) (omega (arith, length-append got (p ∷ []))) (d .flow))
 
--- ---- of one move c of a half (s, X), with the other half (sy, Y) and the packets between: the invariant, what was accepted and handed
+-- ---- of one move c of a half (s, X), with the other half (sy, Y) and the packets between: the invariant, what was accepted, emitted and handed
 -- over, and that a half that has closed stays so and accepts nothing
 
 pub record Fine (c : Call) (s : St) (X : Body) (sy : St) (Y : Body) (xy yx : List Packet) (o : Out) : Type 0 where
   pub inv : Inv (o .st) (o .body) sy Y (push xy (o .emit)) yx
-  pub acc : o .body .acc ≡ X .acc ++ took c (o .ans)
+  pub acc : accOf (o .body) ≡ accOf X ++ took c (o .ans)
+  pub out : o .body .sent ≡ X .sent ++ carried (o .emit)
   pub got : o .body .got ≡ X .got ++ gave (o .pay)
-  pub shut : T (closes s) → T (closes (o .st)) × (o .body .acc ≡ X .acc)
+  pub shut : T (closes s) → T (closes (o .st)) × (accOf (o .body) ≡ accOf X)
 
 -- a refusal accepts nothing
 took-none : (c : Call) (n : ℕ) → T (leb 4 n) → took c n ≡ []
@@ -66,15 +67,16 @@ module _ {sy : St} {Y : Body} {xy yx : List Packet} where
   pub refused : (c : Call) (n : ℕ) (s : St) (X : Body) → T (leb 4 n) → Inv s X sy Y xy yx → Fine c s X sy Y xy yx (refuse n s X)
   refused c n s X h i = record {
     inv = i;
-    acc = rw (took-none c n h) (sym (append-nil (X .acc)));
+    acc = rw (took-none c n h) (sym (append-nil (accOf X)));
+    out = sym (append-nil (X .sent));
     got = sym (append-nil (X .got));
     shut = λ (t : T (closes s)). (t, refl);
   }
 
   -- ---- send
 
-  sent-fine : (p : Bytes) (R : Room) (X : Body) → sOf X < X .high → Inv est X sy Y xy yx → Fine (put p R) est X sy Y xy yx (sent X p)
-  sent-fine p R X h i = record {
+  goes-fine : (p : Bytes) (R : Room) (X : Body) → sOf X < X .high → Inv est X sy Y xy yx → Fine (put p R) est X sy Y xy yx (goes X p)
+  goes-fine p R X h i = record {
     inv = record {
       fitX = rw length-append (omega arith);
       fitY = i .fitY;
@@ -82,6 +84,7 @@ module _ {sy : St} {Y : Body} {xy yx : List Packet} where
       fwd = dir-push est _ (gOf X) _ refl refl (omega arith) (λ w le. (refl, le, (tt, refl))) (i .fwd);
     };
     acc = refl;
+    out = refl;
     got = sym (append-nil (X .got));
     shut = λ t. absurd t;
   }
@@ -89,7 +92,7 @@ module _ {sy : St} {Y : Body} {xy yx : List Packet} where
   pub send-fine : (p : Bytes) (R : Room) (s : St) (X : Body) → Inv s X sy Y xy yx → Fine (put p R) s X sy Y xy yx (send p R s X)
   send-fine p R s X i =
       send-all (Fine (put p R) s X sy Y xy yx) X p R s (λ n t _. refused (put p R) n s X t i)
-      (λ e _ h. rw e (sent-fine p R X (nleb→lt (X .high) (sOf X) h) (rw e at i)))
+      (λ e _ h. rw e (goes-fine p R X (nleb→lt (X .high) (sOf X) h) (rw e at i)))
 
   -- ---- close
 
@@ -99,10 +102,12 @@ module _ {sy : St} {Y : Body} {xy yx : List Packet} where
     inv = record {
       fitX = i .fitX;
       fitY = i .fitY;
-      fwd = dir-push s′ (X .acc) (gOf X) _ c (sym (append-nil (X .acc))) (omega arith) (λ (w : ℕ) (le : w ≤ gOf X). rw c′ (tt, refl, le, refl, refl)) (i .fwd);
+      fwd = dir-push s′ (X .sent) (gOf X) _ c (sym (append-nil (X .sent))) (omega arith) (λ (w : ℕ) (le : w ≤ gOf X). rw c′ (tt, refl, le, refl, refl))
+          (i .fwd);
       bwd = arrived d (d .lost) (d .w) (d .whole) (d .low) (d .mid) (rw k tt) (rw e (d .flow));
     };
-    acc = sym (append-nil (X .acc));
+    acc = sym (append-nil (accOf X));
+    out = sym (append-nil (X .sent));
     got = sym (append-nil (X .got));
     shut = λ (t : T (closes s)). absurd (rw c at t);
   }
@@ -119,11 +124,12 @@ module _ {sy : St} {Y : Body} {xy yx : List Packet} where
     inv = record {
       fitX = i .fitX;
       fitY = i .fitY;
-      fwd = dir-push est (X .acc) (gOf (later X p u)) _ refl (sym (append-nil (X .acc))) (rw length-append (omega arith)) (λ w le. (refl, le, (tt, refl)))
+      fwd = dir-push est (X .sent) (gOf (later X p u)) _ refl (sym (append-nil (X .sent))) (rw length-append (omega arith)) (λ w le. (refl, le, (tt, refl)))
           (i .fwd);
       bwd = dir-read (rw h at (i .bwd));
     };
-    acc = sym (append-nil (X .acc));
+    acc = sym (append-nil (accOf X));
+    out = sym (append-nil (X .sent));
     got = refl;
     shut = λ t. absurd t;
   }
@@ -137,7 +143,8 @@ module _ {sy : St} {Y : Body} {xy yx : List Packet} where
       fwd = silent (i .fwd) refl (rw length-append (omega arith)) tt;
       bwd = dir-read (rw h at (i .bwd));
     };
-    acc = sym (append-nil (X .acc));
+    acc = sym (append-nil (accOf X));
+    out = sym (append-nil (X .sent));
     got = refl;
     shut = λ t. absurd t;
   }

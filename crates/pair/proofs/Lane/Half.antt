@@ -1,5 +1,5 @@
 -- One half of a session with counters that don't wrap: what each call and each packet does to it. It stands for a record in the proof of demand 3.
--- The counters are not stored: S is the number of payloads accepted, G is 4 more than those handed over by read,
+-- The counters are not stored: S is the number of payloads that went out, G is 4 more than those handed over by read,
 -- R is those handed over and those unread. H (high) is stored.
 use Prim.Native.Nat.{ℕ, suc, _+_}
 use mathlib.Core.Bool.{Bool, true, false, not, _&&_, _||_}
@@ -29,14 +29,19 @@ wndwOf (dat q v p) = v
 wndwOf (ack q v) = v
 wndwOf (fin q v) = v
 
+-- sent: the payloads that went out as DATA
 pub record Body : Type 0 where
-  pub acc : List Bytes
+  pub sent : List Bytes
   pub got : List Bytes
   pub unread : List Bytes
   pub high : ℕ
 
+-- the payloads accepted, in their order: each goes out at once
+abbrev pub accOf : Body → List Bytes
+accOf B = B .sent
+
 abbrev pub sOf : Body → ℕ
-sOf B = length (B .acc)
+sOf B = length (B .sent)
 
 abbrev pub gOf : Body → ℕ
 gOf B = length (B .got) + 4
@@ -45,7 +50,7 @@ abbrev pub rOf : Body → ℕ
 rOf B = length (B .got) + length (B .unread)
 
 abbrev pub fresh : Body
-fresh = record { acc = []; got = []; unread = []; high = 4 }
+fresh = record { sent = []; got = []; unread = []; high = 4 }
 
 -- what a step gives back: the number, the half, the packet emitted, the payload handed over
 pub record Out : Type 0 where
@@ -77,11 +82,12 @@ pub record Room : Type 0 where
 
 -- ---- send: 6, 7, 9
 
-abbrev pub sent : Body → Bytes → Out
-sent B p = record {
+-- p goes out as DATA
+abbrev pub goes : Body → Bytes → Out
+goes B p = record {
   ans = 0;
   st = est;
-  body = record { acc = B .acc ++ (p ∷ []); got = B .got; unread = B .unread; high = B .high };
+  body = record { sent = B .sent ++ (p ∷ []); got = B .got; unread = B .unread; high = B .high };
   emit = some (dat (suc (sOf B)) (gOf B) p);
   pay = none;
 }
@@ -93,7 +99,7 @@ abbrev pub tight : Room → Bytes → Bool
 tight R p = ltb (R .buf) (16 + length p)
 
 abbrev pub send : Bytes → Room → St → Body → Out
-send p R est B = unless (R .big) 6 est B (unless (shut B) 7 est B (unless (tight R p) 9 est B (sent B p)))
+send p R est B = unless (R .big) 6 est B (unless (shut B) 7 est B (unless (tight R p) 9 est B (goes B p)))
 send p R fs B = refuse 5 fs B
 send p R fr B = refuse 5 fr B
 send p R gone B = refuse 4 gone B
@@ -101,7 +107,7 @@ send p R gone B = refuse 4 gone B
 -- ---- read: 8 or 11, 9
 
 abbrev pub later : Body → Bytes → List Bytes → Body
-later B p u = record { acc = B .acc; got = B .got ++ (p ∷ []); unread = u; high = B .high }
+later B p u = record { sent = B .sent; got = B .got ++ (p ∷ []); unread = u; high = B .high }
 
 abbrev pub cramped : Room → Bytes → Bool
 cramped R p = ltb (R .pay) (length p) || R .short
@@ -158,10 +164,10 @@ abbrev pub plain : St → Body → Out
 plain s B = record { ans = 0; st = s; body = B; emit = none; pay = none }
 
 abbrev pub stored : Body → ℕ → Bytes → Body
-stored B v p = record { acc = B .acc; got = B .got; unread = B .unread ++ (p ∷ []); high = v }
+stored B v p = record { sent = B .sent; got = B .got; unread = B .unread ++ (p ∷ []); high = v }
 
 abbrev pub raised : Body → ℕ → Body
-raised B v = record { acc = B .acc; got = B .got; unread = B .unread; high = v }
+raised B v = record { sent = B .sent; got = B .got; unread = B .unread; high = v }
 
 abbrev pub take : St → Packet → Body → Out
 take est (dat q v p) B = checked (winOk B v) (nextOk B q) B (plain est (stored B v p))

@@ -1,4 +1,4 @@
--- Means of proof. The invariant of a lane. It goes by direction, not by pairs of states: what the writer had accepted is what the reader has
+-- Means of proof. The invariant of a lane. It goes by direction, not by pairs of states: what the writer has sent is what the reader has
 -- read, has unread, has ignored, and what is on its way; and the packets in flight stand in order between the writer's counters and the reader's.
 use Prim.Native.Nat.{ℕ, _+_, _≤_, suc}
 use native.Mathlib.Omega.{arith}
@@ -83,7 +83,7 @@ News fs t g = Unit
 News fr t g = Unit
 News gone t g = Unit
 
--- one direction: the writer's state, what it had accepted (sent) and its G (g); the packets in flight (l); the reader's state,
+-- one direction: the writer's state, what went out (sent) and its G (g); the packets in flight (l); the reader's state,
 -- payloads handed over and unread, and H. `lost`: what the reader ignored; `w`: the last WNDW that arrived; `t`: the last sent.
 pub record Dir (sx : St) (sent : List Bytes) (g : ℕ) (l : List Packet) (s : St) (got unread : List Bytes) (h : ℕ) : Type 0 where
   pub lost : List Bytes
@@ -98,7 +98,7 @@ pub record Dir (sx : St) (sent : List Bytes) (g : ℕ) (l : List Packet) (s : St
   pub flow : Gate (ended s) (closes sx) (length got + length unread + length lost) w l t
 
 abbrev pub Way : St → Body → List Packet → St → Body → Type 0
-Way sx X l sy Y = Dir sx (X .acc) (gOf X) l sy (Y .got) (Y .unread) (Y .high)
+Way sx X l sy Y = Dir sx (X .sent) (gOf X) l sy (Y .got) (Y .unread) (Y .high)
 
 pub record Inv (sx : St) (X : Body) (sy : St) (Y : Body) (xy yx : List Packet) : Type 0 where
   pub fitX : sOf X ≤ X .high

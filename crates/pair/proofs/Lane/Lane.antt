@@ -4,7 +4,7 @@ use Prim.Native.Nat.{ℕ, zero, suc}
 use mathlib.Core.List.{List, [], _∷_, _++_}
 use mathlib.Core.Option.{Option, none, some}
 use Rattle.pair.specs.Side.{Side, client, server}
-use Rattle.pair.proofs.Lane.Half.{Bytes, Packet, St, est, Body, fresh, Out, Room, send, read, close, take, refuse}
+use Rattle.pair.proofs.Lane.Half.{Bytes, Packet, dat, ack, fin, St, est, Body, fresh, Out, Room, send, read, close, take, refuse}
 
 -- a session's own steps: send, read, close, and taking its next packet
 pub data Call : Type 0 where
@@ -92,7 +92,7 @@ abbrev pub trace : Lane → List Step → List Event
 trace L [] = []
 trace L (t ∷ h) = event L t ∷ trace (next L t) h
 
--- ---- the payloads that an event shows: accepted by a send, handed over by a read
+-- ---- the payloads that an event shows: accepted by a send, gone out as DATA, handed over by a read
 
 abbrev pub tookIf : ℕ → Bytes → List Bytes
 tookIf zero p = p ∷ []
@@ -103,6 +103,12 @@ took (put p R) n = tookIf n p
 took (get R) n = []
 took (shut R) n = []
 took deliver n = []
+
+abbrev pub carried : Option Packet → List Bytes
+carried none = []
+carried (some (dat q v p)) = p ∷ []
+carried (some (ack q v)) = []
+carried (some (fin q v)) = []
 
 abbrev pub gave : Option Bytes → List Bytes
 gave none = []
@@ -117,6 +123,10 @@ onlyAt server server x = x
 abbrev pub accepted : Side → List Event → List Bytes
 accepted k [] = []
 accepted k (e ∷ t) = onlyAt k (e .side) (took (e .call) (e .ans)) ++ accepted k t
+
+abbrev pub emitted : Side → List Event → List Bytes
+emitted k [] = []
+emitted k (e ∷ t) = onlyAt k (e .side) (carried (e .emit)) ++ emitted k t
 
 abbrev pub reads : Side → List Event → List Bytes
 reads k [] = []

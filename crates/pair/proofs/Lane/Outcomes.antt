@@ -5,7 +5,7 @@ use mathlib.Core.Path.{_≡_, refl}
 use mathlib.Core.Bool.{Bool, not, _&&_, _||_}
 use mathlib.Core.List.{List, [], _∷_}
 use lib.Dec.{T, leb, ltb, eqb}
-use Rattle.pair.proofs.Lane.Half.{Bytes, St, est, fs, fr, gone, Body, Out, Room, refuse, unless-all, shut, tight, sent, send, cramped, readOne}
+use Rattle.pair.proofs.Lane.Half.{Bytes, St, est, fs, fr, gone, Body, Out, Room, refuse, unless-all, shut, tight, goes, send, cramped, readOne}
 use Rattle.pair.proofs.Lane.Half.{readLast, readE, readR, read, ending, close}
 
 -- numbers that harm nobody: no fault, not 1 (the end is down), not 12 (it is ill made)
@@ -17,7 +17,7 @@ module _ (P : Out → Type 0) (B : Body) where
   abbrev pub Refusals : St → Type 0
   Refusals s = (n : ℕ) → T (leb 4 n) → T (harmless n) → P (refuse n s B)
 
-  pub send-all : (p : Bytes) (R : Room) (s : St) → Refusals s → (s ≡ est → T (not (R .big)) → T (not (shut B)) → P (sent B p)) → P (send p R s B)
+  pub send-all : (p : Bytes) (R : Room) (s : St) → Refusals s → (s ≡ est → T (not (R .big)) → T (not (shut B)) → P (goes B p)) → P (send p R s B)
   send-all p R est ref y =
       unless-all P (R .big) 6 est B _ (ref 6 tt tt) λ (b : T (not (R .big))).
       unless-all P (shut B) 7 est B _ (ref 7 tt tt) λ (h : T (not (shut B))).

@@ -1,5 +1,5 @@
 -- Means of proof. What every step and every history of a lane shows: the packet at the head is in range and taken with 0; what a side has read
--- is a first part of what the other side's sends had accepted; and the window opens again.
+-- is a first part of what the other side's sends had accepted; what it has emitted is what its own had; and the window opens again.
 use Prim.Native.Nat.{_+_}
 use native.Mathlib.Omega.{arith}
 use mathlib.Core.Path.{_≡_, refl, sym, ap, _∙_, subst}
@@ -8,9 +8,9 @@ use mathlib.Core.List.{List, [], _∷_, _++_, append-assoc, append-nil}
 use lib.ListN.{length}
 use lib.Dec.{T}
 use Rattle.pair.specs.Side.{Side, client, server, other}
-use Rattle.pair.proofs.Lane.Half.{Bytes, Packet, St, Body, seqnumOf, wndwOf, est, sOf}
+use Rattle.pair.proofs.Lane.Half.{Bytes, Packet, St, Body, accOf, seqnumOf, wndwOf, est, sOf}
 use Rattle.pair.proofs.Lane.Lane.{Call, put, get, shut, deliver, move, Lane, begin, stOf, half, toward, moved, land, Step, next, final, trace, took}
-use Rattle.pair.proofs.Lane.Lane.{gave, onlyAt, accepted, reads}
+use Rattle.pair.proofs.Lane.Lane.{carried, gave, onlyAt, accepted, emitted, reads}
 use Rattle.pair.proofs.Lane.Inv.{pays, ended, Inv, Good, swap, start, Ranges, ranges, count}
 use Rattle.pair.proofs.Lane.Calls.{Fine, refused, send-fine, read-fine, close-fine}
 use Rattle.pair.proofs.Lane.Takes.{InRange, in-range, passed, passes, Taken, take-taken}
@@ -42,12 +42,18 @@ module _ (L : Lane) (i : Good L) where
   step-good client c = moved-fine client c .inv
   step-good server c = swap (moved-fine server c .inv)
 
-  -- how the payloads accepted and handed over grow
-  acc-step : (k j : Side) (c : Call) → half k (land j L (moved j c L)) .acc ≡ half k L .acc ++ onlyAt k j (took c (moved j c L .out .ans))
+  -- how the payloads accepted, emitted and handed over grow
+  acc-step : (k j : Side) (c : Call) → accOf (half k (land j L (moved j c L))) ≡ accOf (half k L) ++ onlyAt k j (took c (moved j c L .out .ans))
   acc-step client client c = moved-fine client c .acc
-  acc-step client server c = sym (append-nil (L .C .acc))
-  acc-step server client c = sym (append-nil (L .S .acc))
+  acc-step client server c = sym (append-nil (accOf (L .C)))
+  acc-step server client c = sym (append-nil (accOf (L .S)))
   acc-step server server c = moved-fine server c .acc
+
+  out-step : (k j : Side) (c : Call) → half k (land j L (moved j c L)) .sent ≡ half k L .sent ++ onlyAt k j (carried (moved j c L .out .emit))
+  out-step client client c = moved-fine client c .out
+  out-step client server c = sym (append-nil (L .C .sent))
+  out-step server client c = sym (append-nil (L .S .sent))
+  out-step server server c = moved-fine server c .out
 
   pub got-step : (k j : Side) (c : Call) → half k (land j L (moved j c L)) .got ≡ half k L .got ++ onlyAt k j (gave (moved j c L .out .pay))
   got-step client client c = moved-fine client c .got
@@ -82,7 +88,7 @@ pub record FirstPart (a b : List Bytes) : Type 0 where
   pub rest : List Bytes
   pub eq : b ≡ a ++ rest
 
-pub first-part : (L : Lane) → Good L → (k : Side) → FirstPart (half k L .got) (half (other k) L .acc)
+pub first-part : (L : Lane) → Good L → (k : Side) → FirstPart (half k L .got) (accOf (half (other k) L))
 first-part L i k = let d = seen L i k .bwd in record { rest = half k L .unread ++ (d .lost ++ pays (toward k L)); eq = d .whole ∙ simp append-assoc }
 
 -- ---- histories
@@ -92,17 +98,25 @@ final-good L i [] = i
 final-good L i (t ∷ h) = final-good (next L t) (step-good L i (t .side) (t .call)) h
 
 -- the lists in a half are what the events show
-acc-all : (L : Lane) → Good L → (k : Side) (h : List Step) → half k (final L h) .acc ≡ half k L .acc ++ accepted k (trace L h)
+acc-all : (L : Lane) → Good L → (k : Side) (h : List Step) → accOf (half k (final L h)) ≡ accOf (half k L) ++ accepted k (trace L h)
 acc-all L i k [] = sym (append-nil _)
 acc-all L i k (t ∷ h) = acc-all (next L t) (step-good L i (t .side) (t .call)) k h ∙ simp (acc-step L i k (t .side) (t .call), append-assoc)
+
+out-all : (L : Lane) → Good L → (k : Side) (h : List Step) → half k (final L h) .sent ≡ half k L .sent ++ emitted k (trace L h)
+out-all L i k [] = sym (append-nil _)
+out-all L i k (t ∷ h) = out-all (next L t) (step-good L i (t .side) (t .call)) k h ∙ simp (out-step L i k (t .side) (t .call), append-assoc)
 
 got-all : (L : Lane) → Good L → (k : Side) (h : List Step) → half k (final L h) .got ≡ half k L .got ++ reads k (trace L h)
 got-all L i k [] = sym (append-nil _)
 got-all L i k (t ∷ h) = got-all (next L t) (step-good L i (t .side) (t .call)) k h ∙ simp (got-step L i k (t .side) (t .call), append-assoc)
 
-pub accepted-is : (k : Side) (h : List Step) → half k (final begin h) .acc ≡ accepted k (trace begin h)
+pub accepted-is : (k : Side) (h : List Step) → accOf (half k (final begin h)) ≡ accepted k (trace begin h)
 accepted-is client h = acc-all begin start client h
 accepted-is server h = acc-all begin start server h
+
+emitted-is : (k : Side) (h : List Step) → half k (final begin h) .sent ≡ emitted k (trace begin h)
+emitted-is client h = out-all begin start client h
+emitted-is server h = out-all begin start server h
 
 pub reads-is : (k : Side) (h : List Step) → half k (final begin h) .got ≡ reads k (trace begin h)
 reads-is client h = got-all begin start client h
@@ -113,6 +127,10 @@ pub reads-first-part : (h : List Step) (k : Side) → FirstPart (reads k (trace 
 reads-first-part h k =
     let f = first-part (final begin h) (final-good begin start h) k in
     record { rest = f .rest; eq = sym (accepted-is (other k) h) ∙ f .eq ∙ ap (λ (x : List Bytes). x ++ f .rest) (reads-is k h) }
+
+-- THEOREM: what a side has emitted as DATA is what its sends had accepted, all of it and in its order
+pub emitted-all : (h : List Step) (k : Side) → emitted k (trace begin h) ≡ accepted k (trace begin h)
+emitted-all h k = sym (emitted-is k h) ∙ accepted-is k h
 
 -- ---- the window opens: where both halves are ESTABLISHED, nothing is on its way and all is read, each may send four
 

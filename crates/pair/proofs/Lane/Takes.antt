@@ -8,7 +8,8 @@ use mathlib.Core.List.{List, [], _∷_, _++_, append-assoc, append-nil, cons≢n
 use mathlib.Core.Option.{none}
 use lib.ListN.{length, length-append}
 use lib.Dec.{T, leb, eqb, le→leb, eqb→eq, eqb-refl, not-T}
-use Rattle.pair.proofs.Lane.Half.{Bytes, Packet, dat, ack, fin, St, est, fs, fr, gone, Body, sOf, gOf, rOf, Out, take, refuse, winOk, seqOk, nextOk}
+use Rattle.pair.proofs.Lane.Half.{Bytes, Packet, dat, ack, fin, St, est, fs, fr, gone, Body, accOf, sOf, gOf, rOf, Out, take, refuse, winOk, seqOk}
+use Rattle.pair.proofs.Lane.Half.{nextOk}
 use Rattle.pair.proofs.Lane.Half.{checked, plain, stored, raised, seqnumOf, wndwOf}
 use Rattle.pair.proofs.Lane.Lane.{deliver}
 use Rattle.pair.proofs.Lane.Inv.{pays, Flow, flow-top, closes, ended, Dir, Inv, arrived, silent, count}
@@ -131,13 +132,19 @@ pub record Taken (s : St) (X : Body) (sy : St) (Y : Body) (xy yx : List Packet) 
   pub fine : Fine deliver s X sy Y xy yx o
 
 module _ {sy : St} {Y : Body} {xy yx : List Packet} where
-  plain-taken : (s s′ : St) (X B : Body) → B .acc ≡ X .acc → B .got ≡ X .got → (T (closes s) → T (closes s′)) → Inv s′ B sy Y xy yx
+  plain-taken : (s s′ : St) (X B : Body) → B .sent ≡ X .sent → B .got ≡ X .got → (T (closes s) → T (closes s′)) → Inv s′ B sy Y xy yx
       → Taken s X sy Y xy yx (plain s′ B)
   plain-taken s s′ X B a g c i = record {
     done = refl;
     quiet = refl;
     dry = refl;
-    fine = record { inv = i; acc = a ∙ sym (append-nil (X .acc)); got = g ∙ sym (append-nil (X .got)); shut = λ (t : T (closes s)). (c t, a) };
+    fine = record {
+      inv = i;
+      acc = a ∙ sym (append-nil (accOf X));
+      out = a ∙ sym (append-nil (X .sent));
+      got = g ∙ sym (append-nil (X .got));
+      shut = λ (t : T (closes s)). (c t, a);
+    };
   }
 
   passed-taken : (s : St) (p : Packet) (X : Body) → Inv s X sy Y xy (p ∷ yx) → Taken s X sy Y xy yx (passed s p X)

@@ -8,7 +8,7 @@ use mathlib.Core.Bool.{Bool, not, _||_}
 use mathlib.Core.List.{List, [], _∷_, _++_, append-assoc, append-nil, append-cancel-left}
 use lib.Dec.{T, ltb}
 use Rattle.pair.specs.Side.{Side, client, server, other}
-use Rattle.pair.proofs.Lane.Half.{Bytes, Packet, St, est, fs, fr, gone, Body, Out, Room, unless, unless-all, cramped, read}
+use Rattle.pair.proofs.Lane.Half.{Bytes, Packet, St, est, fs, fr, gone, Body, accOf, Out, Room, unless, unless-all, cramped, read}
 use Rattle.pair.proofs.Lane.Half.{readE, readR, readOne, readLast}
 use Rattle.pair.proofs.Lane.Lane.{Call, put, get, shut, deliver, Lane, begin, stOf, half, toward, moved, land, Event, Step, next, final, trace}
 use Rattle.pair.proofs.Lane.Lane.{accepted, reads}
@@ -28,14 +28,14 @@ no-rest a b c e = by b (append-cancel-left a (b ++ c) [] (sym (append-assoc a b 
 pub told-eleven : (L : Lane) (k : Side) (R : Room) → stOf k L ≡ fr → half k L .unread ≡ [] → moved k (get R) L .out .ans ≡ 11
 told-eleven L k R s e = rw s (rw e)
 
-pub all-read : (L : Lane) → Good L → (k : Side) → half k L .got ≡ half (other k) L .acc → half k L .unread ≡ []
+pub all-read : (L : Lane) → Good L → (k : Side) → half k L .got ≡ accOf (half (other k) L) → half k L .unread ≡ []
 all-read L i k e = let d = seen L i k .bwd in no-rest (half k L .got) (half k L .unread) (d .lost ++ pays (toward k L)) (e ∙ d .whole ∙ simp append-assoc)
 
 -- ---- 11 is true: the writer (sx, X) has closed, and the reader has all that it had accepted
 
 pub record Told (sx : St) (X Y : Body) : Type 0 where
   pub closed : T (closes sx)
-  pub all : X .acc ≡ Y .got
+  pub all : accOf X ≡ Y .got
 
 abbrev pub ToldAt : Side → Lane → Type 0
 ToldAt k L = Told (stOf (other k) L) (half (other k) L) (half k L)
@@ -61,7 +61,7 @@ module _ {sx : St} {X : Body} {xy yx : List Packet} where
 -- ---- and stays true: the writer accepts no more, and what was read stays a first part of it
 
 closed-step : (L : Lane) → Good L → (k j : Side) (c : Call) → T (closes (stOf k L))
-    → T (closes (stOf k (land j L (moved j c L)))) × (half k (land j L (moved j c L)) .acc ≡ half k L .acc)
+    → T (closes (stOf k (land j L (moved j c L)))) × (accOf (half k (land j L (moved j c L))) ≡ accOf (half k L))
 closed-step L i client client c t = moved-fine L i client c .shut t
 closed-step L i client server c t = (t, refl)
 closed-step L i server client c t = (t, refl)
@@ -70,7 +70,7 @@ closed-step L i server server c t = moved-fine L i server c .shut t
 told-step : (L : Lane) → Good L → (k j : Side) (c : Call) → ToldAt k L → ToldAt k (land j L (moved j c L))
 told-step L i k j c t =
     let m = closed-step L i (other k) j c (t .closed) in
-    let a : half (other k) (land j L (moved j c L)) .acc ≡ half k L .got = m .1 ∙ t .all in
+    let a : accOf (half (other k) (land j L (moved j c L))) ≡ half k L .got = m .1 ∙ t .all in
     let g = got-step L i k j c in
     let f = first-part (land j L (moved j c L)) (step-good L i j c) k in
     let z = no-rest (half k L .got) _ (f .rest) (sym a ∙ f .eq ∙ ap (λ (x : List Bytes). x ++ f .rest) g) in

@@ -26,7 +26,7 @@ use Rattle.table.specs.Limits.{Limits}
 use Rattle.send.specs.Send.{sendCases, dataHeader}
 use Rattle.read.specs.Read.{oldestLength, readCases, ackHeader, ackOn, oldestIn}
 use Rattle.close.specs.Close.{closeCases, finHeader}
-use Rattle.pair.proofs.Lane.Half.{Bytes, St, est, fs, fr, gone, Body, sOf, gOf, rOf, dat, Out, Room, sent, shut, tight, send, fin, ending, close, ack}
+use Rattle.pair.proofs.Lane.Half.{Bytes, St, est, fs, fr, gone, Body, sOf, gOf, rOf, dat, Out, Room, goes, shut, tight, send, fin, ending, close, ack}
 use Rattle.pair.proofs.Lane.Half.{later}
 use Rattle.pair.proofs.Lane.Half.{cramped, readOne, readLast, readE, readR, read}
 use Rattle.pair.proofs.Lane.Inv.{Ranges}
@@ -46,11 +46,11 @@ module _ {lim : Limits} {i : ℕ} {storage : List ℕ} {x : Session} {sid : ℕ}
   next : {st : St} → Stands lim i storage x sid st B → plus (x .s) 1 ≡ suc (sOf B) % 2 ^ 32
   next a = rw (s-is a) (plus-counts (sOf B) 1 ∙ ap (λ (n : ℕ). n % 2 ^ 32) (omega arith))
 
-  sent-stands : Stands lim i storage x sid est B → (p : Bytes) → Stands lim i storage (sentOn x) sid est (sent B p .body)
+  sent-stands : Stands lim i storage x sid est B → (p : Bytes) → Stands lim i storage (sentOn x) sid est (goes B p .body)
   sent-stands a p = record {
     sid = a .sid;
     state = a .state;
-    counts = s-becomes (next a ∙ ap (λ (n : ℕ). n % 2 ^ 32) (omega (arith, length-append (B .acc) (p ∷ [])))) (a .counts);
+    counts = s-becomes (next a ∙ ap (λ (n : ℕ). n % 2 ^ 32) (omega (arith, length-append (B .sent) (p ∷ [])))) (a .counts);
     lengths = a .lengths;
     ring = a .ring;
   }
@@ -67,7 +67,7 @@ module _ {lim : Limits} {i : ℕ} {storage : List ℕ} {x : Session} {sid : ℕ}
       (does-test (R .big) _ (sym big) (omega arith)
       (does-test (shut B) _ (rw (s-is a, h-is a) (same-counts (sOf B) (B .high) (b .fit) (b .high))) (omega arith)
       (does-test (tight R p) _ refl (omega arith)
-      (does-done (sent B p) refl (record { after = stands refl (sent-stands a p); packet = sent-packet a p; payload = refl })))))
+      (does-done (goes B p) refl (record { after = stands refl (sent-stands a p); packet = sent-packet a p; payload = refl })))))
   send-does fs a b u p R big = does-stop (ap (λ (st : State). not (established st)) (a .state)) (omega arith)
   send-does fr a b u p R big = does-stop (ap (λ (st : State). not (established st)) (a .state)) (omega arith)
   send-does gone a b u p R big = never u
