@@ -9,21 +9,17 @@ use Rattle.wire.specs.Packet.{headerLength}
 use Rattle.session.specs.declared.record.State.the-variants.{Established, FinReceived}
 use Rattle.session.specs.Counter.{minus}
 use Rattle.session.specs.Record.{payloadLimit, unread}
-use Rattle.table.specs.End.{slotCount, startOf}
+use Rattle.table.specs.End.{slotCount}
 use Rattle.table.specs.Limits.{base}
 use Rattle.table.specs.Well.{wellMade}
 use Rattle.pair.specs.Side.{Side, other}
-use Rattle.pair.specs.World.{roleOf, Sizes}
+use Rattle.pair.specs.World.{Sizes}
 use Rattle.pair.specs.Step.{Send, Read, Step, replyTo}
-use Rattle.pair.specs.Whose.{Marked, empty}
-use Rattle.pair.specs.History.{Scene, Entry, history, final}
+use Rattle.pair.specs.Whose.{Marked}
+use Rattle.pair.specs.History.{Scene, start, Entry, history, final}
 use Rattle.pair.specs.Claims.{Every, Some, own, accepted, received, FirstPart, IsTake, Told, FinTaken, OpenedAs, slotAt, Holds, Fine, OwnSlot}
 use Rattle.pair.specs.Claims.{aloneStep, plainReply}
 use Rattle.pair.proofs.Demand3 as any
-
--- both ends just started, any storages, nothing on its way
-abbrev pub start : (Side → List ℕ) → Scene
-start storage = record { world = λ k. record { end = startOf (roleOf k); storage = storage k; coming = [] }; book = empty }
 
 sizes : Sizes slotCount base
 sizes = record { few = omega arith; fits = omega arith; wide = omega arith }

@@ -2,9 +2,10 @@
 use Prim.Native.Nat.{ℕ}
 use mathlib.Core.List.{List, [], _∷_}
 use mathlib.Core.Option.{Option}
+use Rattle.table.specs.End.{startOf}
 use Rattle.table.specs.Limits.{Limits}
 use Rattle.pair.specs.Side.{Side}
-use Rattle.pair.specs.World.{World, fresh}
+use Rattle.pair.specs.World.{roleOf, World, fresh}
 use Rattle.pair.specs.Step.{Step, Reply, replyTo, next}
 use Rattle.pair.specs.Whose.{Book, empty, whose, noted}
 
@@ -15,6 +16,10 @@ pub record Scene : Type 0 where
 
 abbrev pub dawn : ℕ → (Side → List ℕ) → Scene
 dawn slots storage = record { world = fresh slots storage; book = empty }
+
+-- both ends just started, any storages, nothing on its way
+abbrev pub start : (Side → List ℕ) → Scene
+start storage = record { world = λ k. record { end = startOf (roleOf k); storage = storage k; coming = [] }; book = empty }
 
 pub record Entry : Type 0 where
   pub before : Scene
