@@ -1,11 +1,16 @@
--- Safe: the slot is below sixteen. The measure is how many slots are left.
+use native.Mathlib.Omega.{arith}
+use mathlib.Core.Path.{refl}
+-- What the loop keeps: with the slots that are left put, it is the end with all slots put. The measure is how many slots are left.
 use Prim.Native.Nat.{_-_, _≤_}
+use mathlib.Core.Path.{_≡_, sym, ap, _∙_}
 use borrow.Author.Needs.{needs}
+use Rattle.bench.specs.Crossing.{roleOf}
+use Rattle.bench.proofs.Words.{putFrom, put-on, put-stop, put-all}
 use Rattle.bench.proofs.crossing.end_of.Statement.{statement}
 use Rattle.bench.proofs.crossing.end_of.Tie as tie
 
 abbrev Inv-loop : tie.InvT-loop
-Inv-loop w e₀ i₀ e i = i ≤ 16
+Inv-loop w e₀ i₀ e i = (i ≤ 16) × (putFrom w i (16 - i) e ≡ putFrom w 0 16 e₀)
 
 abbrev μ-loop : tie.MeasureT-loop
 μ-loop w e₀ i₀ e i = 16 - i
@@ -23,7 +28,7 @@ word-requires-2 : tie.Need-word-requires-2 Inv-loop μ-loop
 word-requires-2 c κs = search needs
 
 loop-holds : tie.Need-loop-holds Inv-loop μ-loop
-loop-holds c = search needs
+loop-holds c = (omega arith, refl)
 
 session-of-requires : tie.Need-session-of-requires Inv-loop μ-loop
 session-of-requires c κs = search needs
@@ -38,10 +43,14 @@ loop-less : tie.Need-loop-less Inv-loop μ-loop
 loop-less c = search needs
 
 loop-again : tie.Need-loop-again Inv-loop μ-loop
-loop-again c = search needs
+loop-again c = let l = c .before .before .before .loop in
+    (omega arith, put-on (c .before .before .before .before .before .before .before .before .before .args .w .now) (l .i) (l .e) (c .put .result) (c .before .session-of .result) (c .before .before .loop-test .taken) (c .before .session-of .ensures) (c .put .ensures) (l .inv .1))
 
 returns : tie.Need-returns Inv-loop μ-loop
-returns c = search needs
+returns c = let l = c .before .loop in
+    let w = c .before .before .before .before .before .before .before .args .w .now in
+    sym (put-stop w (l .i) (l .e) (c .loop-test .left)) ∙ l .inv .1
+    ∙ put-all w (c .before .before .before .before .role-of .result) (c .before .before .before .start .result) (c .before .before .word2 .result) (c .before .before .before .before .role-of .ensures ∙ ap roleOf (c .before .before .before .before .before .word .ensures)) (c .before .before .before .start .ensures) (c .before .before .word2 .ensures)
 
 pub end-of-spec : {M : Type 1} → statement M
 end-of-spec =

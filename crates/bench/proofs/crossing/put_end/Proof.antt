@@ -1,13 +1,20 @@
--- Safe: the slot is below sixteen. The measure is how many slots are left.
-use Prim.Native.Nat.{_-_, _≤_}
-use mathlib.Core.Path.{_≡_}
-use lib.ListN.{length}
+-- What the loop keeps: with the slots' words that are left put, all are put. The measure is how many slots are left.
+use Prim.Native.Nat.{_-_, _≤_, _<_}
+use native.Mathlib.Omega.{arith}
+use mathlib.Core.Path.{_≡_, refl, sym, ap, _∙_}
+use lib.ListN.{length, drop}
+use lib.Seq.{sets, length-sets}
 use borrow.Author.Needs.{needs}
+use Rattle.session.proofs.Past.{past}
+use Rattle.table.proofs.Slots.{long}
+use Rattle.bench.specs.Crossing.{slotAt, slotsWords}
+use Rattle.bench.proofs.Words.{slots-on, slots-stop, end-words}
 use Rattle.bench.proofs.crossing.put_end.Statement.{statement}
 use Rattle.bench.proofs.crossing.put_end.Tie as tie
 
 abbrev Inv-loop : tie.InvT-loop
-Inv-loop w₀ e i₀ w i = (i ≤ 16) × (length w ≡ length w₀)
+Inv-loop w₀ e i₀ w i =
+    (i ≤ 16) × ((length w ≡ length w₀) × (sets w (slotAt i) (slotsWords (drop i (e .slots))) ≡ sets w₀ 2 (slotsWords (e .slots))))
 
 abbrev μ-loop : tie.MeasureT-loop
 μ-loop w₀ e i₀ w i = 16 - i
@@ -18,11 +25,14 @@ role-word-requires c κs = search needs
 put-requires : tie.Need-put-requires Inv-loop μ-loop
 put-requires c κs = search needs
 
+up-word-requires : tie.Need-up-word-requires Inv-loop μ-loop
+up-word-requires c κs = search needs
+
 put-requires-2 : tie.Need-put-requires-2 Inv-loop μ-loop
 put-requires-2 c κs = search needs
 
 loop-holds : tie.Need-loop-holds Inv-loop μ-loop
-loop-holds c = search needs
+loop-holds c = (omega arith, (refl, refl))
 
 mul-x : tie.Need-mul-x Inv-loop μ-loop
 mul-x c = search needs
@@ -40,13 +50,23 @@ loop-less : tie.Need-loop-less Inv-loop μ-loop
 loop-less c = search needs
 
 loop-again : tie.Need-loop-again Inv-loop μ-loop
-loop-again c = search needs
+loop-again c = let l = c .before .before .before .before .before .before .loop in
+    let e = c .before .before .before .before .before .before .before .before .before .before .before .before .before .before .before .before .before .before .args .t2 in
+    let good = c .before .before .before .before .before .before .before .before .before .before .before .before .before .before .before .before .before .before .good in
+    let n : 16 ≡ length (e .slots) = search (needs, long) in
+    let p = c .before .before .put-session .ensures in
+    (omega arith, (ap length p ∙ simp length-sets (l .inv .1 .0), slots-on (e .slots) (l .w) (c .before .before .put-session .last .0) (l .i) _ (omega arith) refl p (l .inv .1 .1)))
 
 same-length : tie.Need-same-length Inv-loop μ-loop
 same-length c = search needs
 
 returns : tie.Need-returns Inv-loop μ-loop
-returns c = search needs
+returns c = let l = c .before .loop in
+    let e = c .before .before .before .before .before .before .before .before .before .before .before .before .before .args .t2 in
+    let good = c .before .before .before .before .before .before .before .before .before .before .before .before .before .good in
+    let n : 16 ≡ length (e .slots) = search (needs, long) in
+    sym (slots-stop (e .slots) (l .w) (l .i) (omega arith)) ∙ l .inv .1 .1
+    ∙ end-words e (c .before .before .before .before .before .before .before .before .before .before .before .before .before .args .w .now) (c .before .before .before .before .before .before .before .before .before .put .last .0) (c .before .before .before .before .put2 .last .0) (c .before .before .before .before .before .before .before .before .before .before .role-word .result) (c .before .before .before .before .before .up-word .result) (c .before .before .before .before .before .before .before .before .before .before .role-word .ensures) (c .before .before .before .before .before .up-word .ensures) (c .before .before .before .before .before .before .before .before .before .put .ensures) (c .before .before .before .before .put2 .ensures)
 
 pub put-end-spec : {M : Type 1} → statement M
 put-end-spec =
@@ -56,6 +76,7 @@ put-end-spec =
     μ-loop
     role-word-requires
     put-requires
+    up-word-requires
     put-requires-2
     loop-holds
     mul-x

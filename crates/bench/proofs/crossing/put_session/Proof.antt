@@ -1,13 +1,20 @@
--- Safe: at most 162 words are named. The measure is how many of the ten are left.
-use Prim.Native.Nat.{_-_, _≤_}
-use mathlib.Core.Path.{_≡_}
-use lib.ListN.{length}
+use mathlib.Core.Path.{refl}
+use lib.ListN.{length-set}
+-- What the loop keeps: with the words that are left put, all are put. The measure is how many of the ten are left.
+use Prim.Native.Nat.{ℕ, _+_, _-_, _≤_}
+use native.Mathlib.Omega.{arith}
+use mathlib.Core.Path.{_≡_, sym, ap, _∙_}
+use mathlib.Core.List.{List}
+use lib.ListN.{length, drop}
+use lib.Seq.{sets}
 use borrow.Author.Needs.{needs}
+use Rattle.bench.specs.Crossing.{slotAt}
+use Rattle.bench.proofs.Words.{words-on, words-stop}
 use Rattle.bench.proofs.crossing.put_session.Statement.{statement}
 use Rattle.bench.proofs.crossing.put_session.Tie as tie
 
 abbrev Inv-loop : tie.InvT-loop
-Inv-loop w₀ i a k₀ w k = (k ≤ 10) × (length w ≡ length w₀)
+Inv-loop w₀ i a k₀ w k = (k ≤ 10) × ((length w ≡ length w₀) × (sets w (slotAt i + k) (drop k a) ≡ sets w₀ (slotAt i) a))
 
 abbrev μ-loop : tie.MeasureT-loop
 μ-loop w₀ i a k₀ w k = 10 - k
@@ -16,7 +23,7 @@ words-of-requires : tie.Need-words-of-requires Inv-loop μ-loop
 words-of-requires c κs = search needs
 
 loop-holds : tie.Need-loop-holds Inv-loop μ-loop
-loop-holds c = search needs
+loop-holds c = (omega arith, (refl, ap (λ (n : ℕ). sets (c .before .before .args .w .now) n (c .words-of .result)) (omega arith)))
 
 mul-put : tie.Need-mul-put Inv-loop μ-loop
 mul-put c = search needs
@@ -43,13 +50,22 @@ loop-less : tie.Need-loop-less Inv-loop μ-loop
 loop-less c = search needs
 
 loop-again : tie.Need-loop-again Inv-loop μ-loop
-loop-again c = search needs
+loop-again c = let l = c .before .before .before .before .before .loop in
+    let a = c .before .before .before .before .before .before .words-of .result in
+    let n : length a ≡ 10 = ap length (c .before .before .before .before .before .before .words-of .ensures) in
+    let p = c .before .before .put .ensures in
+    (omega arith, (ap length p ∙ simp length-set (l .inv .1 .0), words-on a (l .w) (c .before .before .put .last .0) (slotAt (c .before .before .before .before .before .before .before .before .args .i)) (l .k) (omega arith) p (l .inv .1 .1)))
 
 same-length : tie.Need-same-length Inv-loop μ-loop
 same-length c = search needs
 
 returns : tie.Need-returns Inv-loop μ-loop
-returns c = search needs
+returns c = let l = c .before .loop in
+    let a = c .before .before .words-of .result in
+    let n : length a ≡ 10 = ap length (c .before .before .words-of .ensures) in
+    let w = c .before .before .before .before .args .w .now in
+    sym (words-stop a (l .w) (slotAt (c .before .before .before .before .args .i)) (l .k) (omega arith)) ∙ l .inv .1 .1
+    ∙ ap (λ (v : List ℕ). sets w (slotAt (c .before .before .before .before .args .i)) v) (c .before .before .words-of .ensures)
 
 pub put-session-spec : {M : Type 1} → statement M
 put-session-spec =
