@@ -1,4 +1,6 @@
 // What comes back of one call or more.
+ghost use mathlib.Core.Path.{_≡_};
+ghost use Rattle.bench.specs.Steady.{answerOf};
 use table::end::End;
 
 // The number and the values of the last answer, in its order; the sum of all numbers and lengths; the record.
@@ -10,7 +12,9 @@ pub(crate) struct Answer {
 }
 
 impl Answer {
-    pub(crate) fn of(number: u8, values: [u64; 4], sum: u64, end: End) -> Answer {
+    pub(crate) fn of(number: u8, values: [u64; 4], sum: u64, end: End) -> Answer
+        ensures { λ r. ⌜ r ≡ answerOf number values sum end ⌝ }
+    {
         Answer {
             number: number,
             values: values,

@@ -1,5 +1,7 @@
 // One call many times over, with the end in one local: what bench/ counts. The C beside it has the same three loops.
 ghost use Prim.Native.Nat.{_≤_};
+ghost use mathlib.Core.Path.{_≡_};
+ghost use Rattle.bench.specs.Steady.{tallyOf, pastOf, nextSid, sendsOf, readsOf, takesOf};
 use crate::answer::Answer;
 use smp::read;
 use smp::send;
@@ -7,7 +9,9 @@ use smp::take;
 use table::end::End;
 
 // So that no call can be left out.
-fn tally(sum: u64, number: u8, length: usize) -> u64 {
+fn tally(sum: u64, number: u8, length: usize) -> u64
+    ensures { λ r. ⌜ r ≡ tallyOf sum number length ⌝ }
+{
     std::num::wrapping_add_u64(
         std::num::wrapping_add_u64(sum, number as u64),
         length as u64,
@@ -17,13 +21,15 @@ fn tally(sum: u64, number: u8, length: usize) -> u64 {
 // Past the bytes used, and never past the last.
 fn past(at: usize, used: usize, n: usize) -> usize
     requires { ⌜ at ≤ n ⌝ }
-    ensures { λ r. ⌜ r ≤ n ⌝ }
+    ensures { λ r. ⌜ r ≡ pastOf at used n ⌝ }
 {
     if used <= n - at { at + used } else { n }
 }
 
 // The sessions in turn: 0, step, 2 step, and so on to the last.
-fn next_sid(sid: u16, last: u16, step: u16) -> u16 {
+fn next_sid(sid: u16, last: u16, step: u16) -> u16
+    ensures { λ r. ⌜ r ≡ nextSid sid last step ⌝ }
+{
     if sid == last {
         0
     } else {
@@ -32,7 +38,10 @@ fn next_sid(sid: u16, last: u16, step: u16) -> u16 {
 }
 
 // Takes that many packets of a stream.
-pub(crate) fn takes(first: End, bytes: &[u8], storage: &mut [u8], count: usize) -> Answer {
+pub(crate) fn takes(first: End, bytes: &[u8], storage: &mut [u8], count: usize) -> Answer
+    ensures { λ r. ⌜ r ≡ takesOf first (now (bytes .entry)) (now (storage .entry)) count .answer ⌝ }
+    ensures { λ _. ⌜ now (storage .exit) ≡ takesOf first (now (bytes .entry)) (now (storage .entry)) count .storage ⌝ }
+{
     let mut e = first;
     let mut number = 0;
     let mut values = [0; 4];
@@ -61,7 +70,10 @@ pub(crate) fn sends(
     count: usize,
     last: u16,
     step: u16,
-) -> Answer {
+) -> Answer
+    ensures { λ r. ⌜ r ≡ sendsOf first start (now (payload .entry)) (now (packet .entry)) count last step .answer ⌝ }
+    ensures { λ _. ⌜ now (packet .exit) ≡ sendsOf first start (now (payload .entry)) (now (packet .entry)) count last step .packet ⌝ }
+{
     let mut e = first;
     let mut sid = start;
     let mut number = 0;
@@ -91,7 +103,11 @@ pub(crate) fn reads(
     count: usize,
     last: u16,
     step: u16,
-) -> Answer {
+) -> Answer
+    ensures { λ r. ⌜ r ≡ readsOf first start (now (storage .entry)) (now (payload .entry)) (now (ack .entry)) count last step .answer ⌝ }
+    ensures { λ _. ⌜ now (payload .exit) ≡ readsOf first start (now (storage .entry)) (now (payload .entry)) (now (ack .entry)) count last step .payload ⌝ }
+    ensures { λ _. ⌜ now (ack .exit) ≡ readsOf first start (now (storage .entry)) (now (payload .entry)) (now (ack .entry)) count last step .ack ⌝ }
+{
     let mut e = first;
     let mut sid = start;
     let mut number = 0;

@@ -1,21 +1,26 @@
--- Safe: the buffer keeps its length. The measure is how many calls are left.
+-- What the loop keeps: the sends that are left give what all of them give. The measure is how many are left.
 use Prim.Native.Nat.{_-_, _≤_}
+use native.Mathlib.Omega.{arith}
+use mathlib.Core.Path.{_≡_, refl, ap, _∙_}
 use lib.ListN.{length}
-use mathlib.Core.Path.{_≡_}
 use borrow.Author.Needs.{needs}
+use Rattle.bench.specs.Steady.{answerOf, times, Sending, sendingOf, sendStep, sendsOf}
+use Rattle.bench.proofs.Loops.{times-on, times-stop, sends-first, send-turn}
 use Rattle.bench.proofs.steady.sends.Statement.{statement}
 use Rattle.bench.proofs.steady.sends.Tie as tie
 
 abbrev Inv-loop : tie.InvT-loop
 Inv-loop start payload packet₀ count last step e₀ sid₀ number₀ values₀ sum₀ n₀ packet e sid number values sum n =
-    (n ≤ count) × (length packet ≡ length packet₀)
+    (n ≤ count) × ((length packet ≡ length packet₀)
+    × (times (count - n) (sendStep payload last step) (sendingOf (answerOf number values sum e) sid packet)
+    ≡ sendsOf e₀ start payload packet₀ count last step))
 
 abbrev μ-loop : tie.MeasureT-loop
-μ-loop start payload packet₀ count last step e₀ sid₀ number₀ values₀ sum₀ n₀ packet e sid number values sum n =
-    count - n
+μ-loop start payload packet₀ count last step e₀ sid₀ number₀ values₀ sum₀ n₀ packet e sid number values sum n = count - n
 
 loop-holds : tie.Need-loop-holds Inv-loop μ-loop
-loop-holds c = search needs
+loop-holds c = let a = c .before .before .args in
+    (omega arith, (refl, sends-first (a .payload .now) (a .last) (a .step) (a .first) (a .start) (a .count) (a .packet .now)))
 
 send-requires : tie.Need-send-requires Inv-loop μ-loop
 send-requires c κs = search needs
@@ -33,7 +38,13 @@ loop-less : tie.Need-loop-less Inv-loop μ-loop
 loop-less c = search needs
 
 loop-again : tie.Need-loop-again Inv-loop μ-loop
-loop-again c = search needs
+loop-again c = let a = c .before .before .before .before .before .before .before .before .before .before .before .args in
+    let l = c .before .before .before .before .before .before .before .before .loop in
+    let s = c .before .before .before .before .before .send in
+    let g = sendingOf (answerOf (l .number) (l .values) (l .sum) (l .e)) (l .sid) (l .packet) in
+    let turn = send-turn (a .payload .now) (a .last) (a .step) g (s .result) (s .last .1 .1 .1 .0) (c .before .before .next-sid .result) (c .before .tally .result) (s .ensures)
+    (c .before .before .next-sid .ensures) (c .before .tally .ensures) in
+    (omega arith, (search needs, times-on (sendStep (a .payload .now) (a .last) (a .step)) (l .n) (a .count) g _ (c .before .before .before .before .before .before .before .loop-test .taken) turn (l .inv .1 .1)))
 
 of-requires : tie.Need-of-requires Inv-loop μ-loop
 of-requires c κs = search needs
@@ -42,7 +53,11 @@ same-length : tie.Need-same-length Inv-loop μ-loop
 same-length c = search needs
 
 returns : tie.Need-returns Inv-loop μ-loop
-returns c = search needs
+returns c = let a = c .before .before .before .before .before .args in
+    let l = c .before .before .loop in
+    let all = times-stop (sendStep (a .payload .now) (a .last) (a .step)) (l .n) (a .count)
+    (sendingOf (answerOf (l .number) (l .values) (l .sum) (l .e)) (l .sid) (l .packet)) (c .before .loop-test .left) (l .inv .1 .1) in
+    (c .of .ensures ∙ ap (λ (g : Sending). g .answer) all, ap (λ (g : Sending). g .packet) all)
 
 pub sends-spec : {M : Type 1} → statement M
 sends-spec =

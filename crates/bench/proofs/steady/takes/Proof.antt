@@ -1,20 +1,26 @@
--- Safe: the next packet begins within the bytes. The measure is how many calls are left.
+-- What the loop keeps: the takes that are left give what all of them give, and the next packet begins within the bytes. The measure is how many
+-- are left.
 use Prim.Native.Nat.{_-_, _≤_}
-use mathlib.Core.Path.{_≡_}
+use native.Mathlib.Omega.{arith}
+use mathlib.Core.Path.{_≡_, refl, ap, _∙_}
 use lib.ListN.{length}
 use borrow.Author.Needs.{needs}
+use Rattle.bench.specs.Steady.{answerOf, times, Taking, takingOf, takeStep, takesOf}
+use Rattle.bench.proofs.Loops.{times-on, times-stop, takes-first, take-turn}
 use Rattle.bench.proofs.steady.takes.Statement.{statement}
 use Rattle.bench.proofs.steady.takes.Tie as tie
 
 abbrev Inv-loop : tie.InvT-loop
-Inv-loop bytes storage₀ count e₀ number₀ values₀ at₀ sum₀ n₀ storage e number values at sum n = (n ≤ count) × (at ≤ length bytes)
-    × (length storage ≡ length storage₀)
+Inv-loop bytes storage₀ count e₀ number₀ values₀ at₀ sum₀ n₀ storage e number values at sum n =
+    (n ≤ count) × ((at ≤ length bytes) × ((length storage ≡ length storage₀)
+    × (times (count - n) (takeStep bytes) (takingOf (answerOf number values sum e) at storage) ≡ takesOf e₀ bytes storage₀ count)))
 
 abbrev μ-loop : tie.MeasureT-loop
 μ-loop bytes storage₀ count e₀ number₀ values₀ at₀ sum₀ n₀ storage e number values at sum n = count - n
 
 loop-holds : tie.Need-loop-holds Inv-loop μ-loop
-loop-holds c = search needs
+loop-holds c = let a = c .before .before .args in
+    (omega arith, (omega arith, (refl, takes-first (a .bytes .now) (a .first) (a .count) (a .storage .now))))
 
 sub-take : tie.Need-sub-take Inv-loop μ-loop
 sub-take c = search needs
@@ -47,7 +53,12 @@ loop-less : tie.Need-loop-less Inv-loop μ-loop
 loop-less c = search needs
 
 loop-again : tie.Need-loop-again Inv-loop μ-loop
-loop-again c = search needs
+loop-again c = let a = c .before .before .before .before .before .before .before .before .before .before .before .before .before .before .args in
+    let l = c .before .before .before .before .before .before .before .before .before .before .before .loop in
+    let t = c .before .before .before .before .before .before .before .take in
+    let g = takingOf (answerOf (l .number) (l .values) (l .sum) (l .e)) (l .at) (l .storage) in
+    let turn = take-turn (a .bytes .now) g (t .result) (t .last .1 .1 .0) (c .before .before .before .before .past .result) (c .before .before .before .tally .result) (t .ensures) refl (c .before .before .before .before .past .ensures) (c .before .before .before .tally .ensures) in
+    (omega arith, (omega arith, (search needs, times-on (takeStep (a .bytes .now)) (l .n) (a .count) g _ (c .before .before .before .before .before .before .before .before .before .before .loop-test .taken) turn (l .inv .1 .1 .1))))
 
 of-requires : tie.Need-of-requires Inv-loop μ-loop
 of-requires c κs = search needs
@@ -56,7 +67,11 @@ same-length : tie.Need-same-length Inv-loop μ-loop
 same-length c = search needs
 
 returns : tie.Need-returns Inv-loop μ-loop
-returns c = search needs
+returns c = let a = c .before .before .before .before .before .args in
+    let l = c .before .before .loop in
+    let all = times-stop (takeStep (a .bytes .now)) (l .n) (a .count)
+    (takingOf (answerOf (l .number) (l .values) (l .sum) (l .e)) (l .at) (l .storage)) (c .before .loop-test .left) (l .inv .1 .1 .1) in
+    (c .of .ensures ∙ ap (λ (g : Taking). g .answer) all, ap (λ (g : Taking). g .storage) all)
 
 pub takes-spec : {M : Type 1} → statement M
 takes-spec =
