@@ -1,4 +1,13 @@
 // Any call on any record: what bench/ calls from C.
+ghost use mathlib.Core.Path.{_≡_};
+ghost use lib.ListN.{length};
+ghost use Rattle.buffer.specs.Onto.{onto};
+ghost use Rattle.table.specs.Limits.{base};
+ghost use Rattle.start.specs.Start.{startOf};
+ghost use Rattle.open.specs.Open.{openOf, openPacket};
+ghost use Rattle.close.specs.Close.{closeOf, closePacket};
+ghost use Rattle.shutdown.specs.Shutdown.{shutdownOf};
+ghost use Rattle.bench.specs.Call.{startAnswer, openAnswer, closeAnswer, shutdownAnswer, leftBy, Leaves, benchOf, BenchPromise};
 use crate::answer::Answer;
 use crate::crossing::end_of;
 use crate::crossing::put_end;
@@ -7,26 +16,36 @@ use crate::steady::sends;
 use crate::steady::takes;
 use table::end::End;
 
-fn started(e: End) -> Answer {
+fn started(e: End) -> Answer
+    ensures { λ r. ⌜ r ≡ startAnswer (startOf (e .role)) ⌝ }
+{
     let role = e.role;
     let r = smp::start(role);
     let end = r.end;
     Answer::of(r.number, [0; 4], 0, end)
 }
 
-fn opened(e: End, packet: &mut [u8]) -> Answer {
+fn opened(e: End, packet: &mut [u8]) -> Answer
+    ensures { λ r. ⌜ r ≡ openAnswer (openOf base e (length (now (packet .entry)))) ⌝ }
+    ensures { λ _. ⌜ now (packet .exit) ≡ onto (openPacket base e (length (now (packet .entry)))) (now (packet .entry)) ⌝ }
+{
     let r = smp::open(e, packet);
     let end = r.end;
     Answer::of(r.number, [r.sid as u64, r.length as u64, 0, 0], 0, end)
 }
 
-fn closed(e: End, sid: u16, packet: &mut [u8]) -> Answer {
+fn closed(e: End, sid: u16, packet: &mut [u8]) -> Answer
+    ensures { λ r. ⌜ r ≡ closeAnswer (closeOf base e sid (length (now (packet .entry)))) ⌝ }
+    ensures { λ _. ⌜ now (packet .exit) ≡ onto (closePacket base e sid (length (now (packet .entry)))) (now (packet .entry)) ⌝ }
+{
     let r = smp::close(e, sid, packet);
     let end = r.end;
     Answer::of(r.number, [r.length as u64, 0, 0, 0], 0, end)
 }
 
-fn stopped(e: End) -> Answer {
+fn stopped(e: End) -> Answer
+    ensures { λ r. ⌜ r ≡ shutdownAnswer (shutdownOf base e) ⌝ }
+{
     let r = smp::shutdown(e);
     let end = r.end;
     Answer::of(r.number, [0; 4], 0, end)
@@ -44,7 +63,11 @@ fn called(
     count: usize,
     last: u16,
     step: u16,
-) -> Answer {
+) -> Answer
+    ensures { λ r. ⌜ Leaves
+        (leftBy call e sid (now (bytes .entry)) (now (storage .entry)) (now (out .entry)) (now (ack .entry)) count last step)
+        r (now (storage .exit)) (now (out .exit)) (now (ack .exit)) ⌝ }
+{
     match call {
         0 => started(e),
         1 => opened(e, out),
@@ -56,12 +79,12 @@ fn called(
     }
 }
 
-// The record's words become those of the record that comes back; five values: the number and what the last call's answer gives beside it.
+// The words become those of the record that comes back; five values: the number and what the last call's answer gives beside it.
 #[no_mangle]
 pub extern "C" fn bench_call(
     call: u32,
     sid: u16,
-    record: &mut [u32],
+    words: &mut [u32],
     bytes: &[u8],
     storage: &mut [u8],
     out: &mut [u8],
@@ -70,10 +93,14 @@ pub extern "C" fn bench_call(
     count: usize,
     last: u16,
     step: u16,
-) -> u64 {
+) -> u64
+    ensures { λ r. ⌜ BenchPromise
+        (benchOf call sid (now (words .entry)) (now (bytes .entry)) (now (storage .entry)) (now (out .entry)) (now (ack .entry)) count last step)
+        (now (words .entry)) r (now (values .exit)) (now (words .exit)) (now (storage .exit)) (now (out .exit)) (now (ack .exit)) ⌝ }
+{
     let r = called(
         call,
-        end_of(record),
+        end_of(words),
         sid,
         bytes,
         storage,
@@ -84,7 +111,7 @@ pub extern "C" fn bench_call(
         step,
     );
     let end = r.end;
-    put_end(record, end);
+    put_end(words, end);
     let v = r.values;
     *values = [r.number as u64, v[0], v[1], v[2], v[3]];
     r.sum
