@@ -61,7 +61,7 @@ module _ (call : ℕ) (e : End) (sid : ℕ) (bytes storage out ack : List ℕ) (
 -- ---- what is made of it
 
 -- an array of four is its four values
-four : (l : List ℕ) → length l ≡ 4 → getD l 0 0 ∷ getD l 1 0 ∷ getD l 2 0 ∷ getD l 3 0 ∷ [] ≡ l
+pub four : (l : List ℕ) → length l ≡ 4 → getD l 0 0 ∷ getD l 1 0 ∷ getD l 2 0 ∷ getD l 3 0 ∷ [] ≡ l
 four [] h = absurd (omega arith)
 four (a ∷ []) h = absurd (omega arith)
 four (a ∷ b ∷ []) h = absurd (omega arith)
@@ -70,25 +70,23 @@ four (a ∷ b ∷ c ∷ d ∷ []) h = refl
 four (a ∷ b ∷ c ∷ d ∷ x ∷ l) h = absurd (omega arith)
 
 module _ (call sid : ℕ) (words bytes storage out ack : List ℕ) (count last step : ℕ) where
-  made : (left : Left) (r : Answer) (words' storage' out' ack' : List ℕ) → Leaves left r storage' out' ack'
-      → words' ≡ over (wordsOf (r .end)) words → length (r .values) ≡ 4
-      → BenchPromise left words (r .sum)
-      (r .number ∷ getD (r .values) 0 0 ∷ getD (r .values) 1 0 ∷ getD (r .values) 2 0 ∷ getD (r .values) 3 0 ∷ []) words' storage' out' ack'
-  made left r words' storage' out' ack' l w n = record {
+  made : (left : Left) (r : Answer) (values' words' storage' out' ack' : List ℕ) → Leaves left r storage' out' ack'
+      → words' ≡ over (wordsOf (r .end)) words → values' ≡ r .number ∷ r .values
+      → BenchPromise left words (r .sum) values' words' storage' out' ack'
+  made left r values' words' storage' out' ack' l w v = record {
     sum = ap (λ (a : Answer). a .sum) (l .answer);
-    values = ap (λ (v : List ℕ). r .number ∷ v) (four (r .values) n) ∙ ap (λ (a : Answer). a .number ∷ a .values) (l .answer);
+    values = v ∙ ap (λ (a : Answer). a .number ∷ a .values) (l .answer);
     words = w ∙ ap (λ (a : Answer). over (wordsOf (a .end)) words) (l .answer);
     storage = l .storage;
     out = l .out;
     ack = l .ack;
   }
 
-  pub bench-made : (e : End) (r : Answer) (words' storage' out' ack' : List ℕ) → e ≡ endFrom words
+  pub bench-made : (e : End) (r : Answer) (values' words' storage' out' ack' : List ℕ) → e ≡ endFrom words
       → Leaves (leftBy call e sid bytes storage out ack count last step) r storage' out' ack'
-      → words' ≡ over (wordsOf (r .end)) words → length (r .values) ≡ 4
-      → BenchPromise (benchOf call sid words bytes storage out ack count last step) words (r .sum)
-      (r .number ∷ getD (r .values) 0 0 ∷ getD (r .values) 1 0 ∷ getD (r .values) 2 0 ∷ getD (r .values) 3 0 ∷ []) words' storage' out' ack'
+      → words' ≡ over (wordsOf (r .end)) words → values' ≡ r .number ∷ r .values
+      → BenchPromise (benchOf call sid words bytes storage out ack count last step) words (r .sum) values' words' storage' out' ack'
   unfolding benchOf
-  bench-made e r words' storage' out' ack' p l w n =
-      made (leftBy call (endFrom words) sid bytes storage out ack count last step) r words' storage' out' ack'
-      (subst (λ (x : End). Leaves (leftBy call x sid bytes storage out ack count last step) r storage' out' ack') p l) w n
+  bench-made e r values' words' storage' out' ack' p l w v =
+      made (leftBy call (endFrom words) sid bytes storage out ack count last step) r values' words' storage' out' ack'
+      (subst (λ (x : End). Leaves (leftBy call x sid bytes storage out ack count last step) r storage' out' ack') p l) w v

@@ -8,12 +8,15 @@ use mathlib.Core.List.{List, [], _∷_, _++_}
 use lib.Dec.{eqb}
 use lib.ListN.{length, getD, drop, set, drop-of-length-le}
 use lib.Seq.{sets, drop-cons}
+use Rattle.session.specs.declared.record.State.{State}
 use Rattle.session.specs.declared.record.Session.{Session}
+use Rattle.session.specs.Record.{recordOf}
 use Rattle.session.proofs.Past.{past}
 use Rattle.table.specs.declared.end.Role.{Role}
 use Rattle.table.specs.declared.end.End.{End}
 use Rattle.table.specs.End.{slotCount, startOf, putOf}
-use Rattle.bench.specs.Crossing.{wordAt, roleOf, slotAt, sessionFrom, slotsFrom, endFrom, roleWord, upWord, sessionWords, slotsWords, wordsOf, over}
+use Rattle.bench.specs.Crossing.{wordAt, shortOf, lensAt, roleOf, stateOf, slotAt, sessionFrom, slotsFrom, endFrom}
+use Rattle.bench.specs.Crossing.{roleWord, upWord, stateWord, sessionWords, slotsWords, wordsOf, over}
 
 -- ---- an end from words, slot by slot
 
@@ -46,6 +49,17 @@ pub put-all : (w : List ℕ) (r : Role) (s : End) (b : ℕ) → r ≡ roleOf (wo
 unfolding putFrom endFrom slotsFrom
 put-all w r s b p q u = rw (q, p, u)
 
+-- lengths, and a record from its parts, each as it was found
+pub lens-made : (w : List ℕ) (at a b c d : ℕ) → a ≡ shortOf (wordAt w at) → b ≡ shortOf (wordAt w (at + 1)) → c ≡ shortOf (wordAt w (at + 2))
+    → d ≡ shortOf (wordAt w (at + 3)) → a ∷ b ∷ c ∷ d ∷ [] ≡ lensAt w at
+lens-made w at a b c d p q r s = rw (p, q, r, s)
+
+pub session-made : (w : List ℕ) (i : ℕ) (x : Session) (st : State) (sid s h r g : ℕ) (lens : List ℕ) → x ≡ recordOf st sid s h r g lens
+    → st ≡ stateOf (wordAt w (slotAt i)) → sid ≡ shortOf (wordAt w (slotAt i + 1)) → s ≡ wordAt w (slotAt i + 2) → h ≡ wordAt w (slotAt i + 3)
+    → r ≡ wordAt w (slotAt i + 4) → g ≡ wordAt w (slotAt i + 5) → lens ≡ lensAt w (slotAt i + 6) → x ≡ sessionFrom w i
+unfolding sessionFrom
+session-made w i x st sid s h r g lens p a b c d e f l = p ∙ rw (a, b, c, d, e, f, l)
+
 -- ---- words put one by one
 
 sets-cons : (y : ℕ) (w : List ℕ) (i : ℕ) (vs : List ℕ) → sets (y ∷ w) (suc i) vs ≡ y ∷ sets w i vs
@@ -67,7 +81,13 @@ sets-append w i [] b = ap (λ (k : ℕ). sets w k b) (omega arith)
 sets-append w i (x ∷ a) b =
     ap (λ (k : ℕ). sets (sets (set w i x) (suc i) a) k b) (omega arith) ∙ sets-append (set w i x) (suc i) a b
 
--- a record's words, from word k on
+-- a record's words, each as it was found
+pub words-made : (x : Session) (st sid a b c d : ℕ) → st ≡ stateWord (x .state) → sid ≡ x .sid → a ≡ getD (x .lens) 0 0 → b ≡ getD (x .lens) 1 0
+    → c ≡ getD (x .lens) 2 0 → d ≡ getD (x .lens) 3 0
+    → st ∷ sid ∷ x .s ∷ x .h ∷ x .r ∷ x .g ∷ a ∷ b ∷ c ∷ d ∷ [] ≡ sessionWords x
+words-made x st sid a b c d p q r s t u = rw (p, q, r, s, t, u)
+
+-- the same put, from word k on
 words-step : (a w : List ℕ) (at k : ℕ) → k < length a
     → sets w (at + k) (drop k a) ≡ sets (set w (at + k) (getD a k 0)) (at + (k + 1)) (drop (k + 1) a)
 words-step a w at k h =

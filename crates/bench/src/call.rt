@@ -1,5 +1,6 @@
 // Any call on any record: what bench/ calls from C.
 ghost use mathlib.Core.Path.{_≡_};
+ghost use mathlib.Core.List.{_∷_};
 ghost use lib.ListN.{length};
 ghost use Rattle.buffer.specs.Onto.{onto};
 ghost use Rattle.table.specs.Limits.{base};
@@ -79,7 +80,14 @@ fn called(
     }
 }
 
-// The words become those of the record that comes back; five values: the number and what the last call's answer gives beside it.
+// The five values: the number, and what the last call's answer gives beside it.
+fn five(number: u8, v: [u64; 4]) -> [u64; 5]
+    ensures { λ r. ⌜ r ≡ number ∷ v ⌝ }
+{
+    [number as u64, v[0], v[1], v[2], v[3]]
+}
+
+// The words become those of the record that comes back, and the sum is that of all calls.
 #[no_mangle]
 pub extern "C" fn bench_call(
     call: u32,
@@ -113,6 +121,6 @@ pub extern "C" fn bench_call(
     let end = r.end;
     put_end(words, end);
     let v = r.values;
-    *values = [r.number as u64, v[0], v[1], v[2], v[3]];
+    *values = five(r.number, v);
     r.sum
 }

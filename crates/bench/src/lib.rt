@@ -1,5 +1,5 @@
 // The calls as a C program reaches them, for bench/ alone: an end crosses as words in a slice, and lives in one local while it is here.
-// Of these functions it is proved that they are safe and end, and no more; what the calls do is promised in smp.
+// What comes back, and every word and byte that was lent, is promised by the definitions that the calls' own contracts cite (specs/Call.antt).
 mod answer;
 mod call;
 mod crossing;

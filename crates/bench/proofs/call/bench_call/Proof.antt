@@ -1,6 +1,4 @@
 -- What was called and put goes to the law.
-use mathlib.Core.Path.{_≡_, sym}
-use lib.ListN.{length}
 use borrow.Author.Needs.{needs}
 use Rattle.bench.proofs.Named.{bench-made}
 use Rattle.bench.proofs.call.bench_call.Statement.{statement}
@@ -15,20 +13,8 @@ called-requires c κs = search needs
 put-end-requires : tie.Need-put-end-requires
 put-end-requires c κs = search needs
 
-cast-t27 : tie.Need-cast-t27
-cast-t27 c = search needs
-
-array-read-t30 : tie.Need-array-read-t30
-array-read-t30 c = search needs
-
-array-read-t33 : tie.Need-array-read-t33
-array-read-t33 c = search needs
-
-array-read-t36 : tie.Need-array-read-t36
-array-read-t36 c = search needs
-
-array-read-t39 : tie.Need-array-read-t39
-array-read-t39 c = search needs
+five-requires : tie.Need-five-requires
+five-requires c κs = search needs
 
 same-length : tie.Need-same-length
 same-length c = search needs
@@ -43,12 +29,15 @@ same-length-4 : tie.Need-same-length-4
 same-length-4 c = search needs
 
 returns : tie.Need-returns
-returns c = let a = c .before .before .before .before .before .before .before .before .before .before .before .before .before .before .before .before .before .before .before .before .before .before .before .before .before .args in
-    let r = c .before .before .before .before .before .before .before .before .before .before .before .before .before .before .called in
-    let n : length (r .result .values) ≡ 4 = search needs in
+returns c = let mid = c .before .before .before .before .before .before .before .before .before .before .before .before in
+    let a = mid .before .before .before .before .before .before .before .before .before .before .before .before .args in
+    let e = c .before .before .before .before .before .before .before .before .before .before .before .before .before .before .before .before .before .end-of in
+    let r = c .before .before .before .before .before .before .before .before .before .before .before .before .before .called in
+    let w = c .before .before .before .before .put-end in
+    let v = c .five in
     bench-made (a .call) (a .sid) (a .words .now) (a .bytes .now) (a .storage .now) (a .out .now) (a .ack .now) (a .count) (a .last) (a .step)
-    (c .before .before .before .before .before .before .before .before .before .before .before .before .before .before .before .before .before .before .end-of .result) (r .result) (c .before .before .before .before .before .put-end .last .0) (r .last .1 .1 .1 .1 .0) (r .last .1 .1 .1 .1 .1 .0) (r .last .1 .1 .1 .1 .1 .1 .0)
-    (c .before .before .before .before .before .before .before .before .before .before .before .before .before .before .before .before .before .before .end-of .ensures) (r .ensures) (c .before .before .before .before .before .put-end .ensures) n
+    (e .result) (r .result) (v .result) (w .last .0) (r .last .1 .1 .1 .1 .0) (r .last .1 .1 .1 .1 .1 .0) (r .last .1 .1 .1 .1 .1 .1 .0)
+    (e .ensures) (r .ensures) (w .ensures) (v .ensures)
 
 pub bench-call-spec : {M : Type 1} → statement M
 bench-call-spec =
@@ -57,11 +46,7 @@ bench-call-spec =
     end-of-requires
     called-requires
     put-end-requires
-    cast-t27
-    array-read-t30
-    array-read-t33
-    array-read-t36
-    array-read-t39
+    five-requires
     same-length
     same-length-2
     same-length-3

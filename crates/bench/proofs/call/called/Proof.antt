@@ -63,7 +63,8 @@ returns-4 : tie.Need-returns-4
 returns-4 c = let a = c .before .before .before .before .before .before .before .before .before .before .before .before .before .args in
     let f = c .before .before .before .before .reads in
     named-read (a .call) (a .e) (a .sid) (a .bytes .now) (a .storage .now) (a .out .now) (a .ack .now) (a .count) (a .last) (a .step)
-    (f .result) (f .last .1 .1 .1 .0) (f .last .1 .1 .1 .1 .0) (c .before .before .before .before .before .before .before .before .match .keys4) (f .ensures .0) (f .ensures .1 .0) (f .ensures .1 .1)
+    (f .result) (f .last .1 .1 .1 .0) (f .last .1 .1 .1 .1 .0) (c .before .before .before .before .before .before .before .before .match .keys4)
+    (f .ensures .0) (f .ensures .1 .0) (f .ensures .1 .1)
 
 same-length-6 : tie.Need-same-length-6
 same-length-6 c = search needs

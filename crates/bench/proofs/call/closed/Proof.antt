@@ -15,7 +15,8 @@ same-length : tie.Need-same-length
 same-length c = search needs
 
 returns : tie.Need-returns
-returns c = (c .of .ensures ∙ ap closeAnswer (c .before .before .before .before .close .ensures .answer), c .before .before .before .before .close .ensures .packet)
+returns c = let x = c .before .before .before .before .close in
+    (c .of .ensures ∙ ap closeAnswer (x .ensures .answer), x .ensures .packet)
 
 pub closed-spec : {M : Type 1} → statement M
 closed-spec = tie.close (tie.spec close-requires of-requires same-length returns)

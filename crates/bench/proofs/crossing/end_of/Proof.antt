@@ -43,14 +43,21 @@ loop-less : tie.Need-loop-less Inv-loop μ-loop
 loop-less c = search needs
 
 loop-again : tie.Need-loop-again Inv-loop μ-loop
-loop-again c = let l = c .before .before .before .loop in
-    (omega arith, put-on (c .before .before .before .before .before .before .before .before .before .args .w .now) (l .i) (l .e) (c .put .result) (c .before .session-of .result) (c .before .before .loop-test .taken) (c .before .session-of .ensures) (c .put .ensures) (l .inv .1))
+loop-again c = let a = c .before .before .before .before .before .before .before .before .before .args in
+    let l = c .before .before .before .loop in
+    let x = c .before .session-of in (
+      omega arith,
+      put-on (a .w .now) (l .i) (l .e) (c .put .result) (x .result) (c .before .before .loop-test .taken) (x .ensures) (c .put .ensures) (l .inv .1),
+    )
 
 returns : tie.Need-returns Inv-loop μ-loop
-returns c = let l = c .before .loop in
-    let w = c .before .before .before .before .before .before .before .args .w .now in
-    sym (put-stop w (l .i) (l .e) (c .loop-test .left)) ∙ l .inv .1
-    ∙ put-all w (c .before .before .before .before .role-of .result) (c .before .before .before .start .result) (c .before .before .word2 .result) (c .before .before .before .before .role-of .ensures ∙ ap roleOf (c .before .before .before .before .before .word .ensures)) (c .before .before .before .start .ensures) (c .before .before .word2 .ensures)
+returns c = let w = c .before .before .before .before .before .before .before .args .w .now in
+    let l = c .before .loop in
+    let r = c .before .before .before .before .role-of in
+    let s = c .before .before .before .start in
+    let u = c .before .before .word2 in
+    let role = r .ensures ∙ ap roleOf (c .before .before .before .before .before .word .ensures) in
+    sym (put-stop w (l .i) (l .e) (c .loop-test .left)) ∙ l .inv .1 ∙ put-all w (r .result) (s .result) (u .result) role (s .ensures) (u .ensures)
 
 pub end-of-spec : {M : Type 1} → statement M
 end-of-spec =

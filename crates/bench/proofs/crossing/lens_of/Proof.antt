@@ -1,57 +1,55 @@
 -- Each is as `word` and `short` say.
+use mathlib.Core.Path.{ap, _∙_}
 use borrow.Author.Needs.{needs}
+use Rattle.bench.specs.Crossing.{shortOf}
+use Rattle.bench.proofs.Words.{lens-made}
 use Rattle.bench.proofs.crossing.lens_of.Statement.{statement}
 use Rattle.bench.proofs.crossing.lens_of.Tie as tie
-use Rattle.bench.proofs.crossing.short.Reads as short-reads
-use Rattle.bench.proofs.crossing.word.Reads as word-reads
 
--- src/crossing.rt:54:15
 word-requires : tie.Need-word-requires
 word-requires c κs = search needs
 
--- src/crossing.rt:54:9
 short-requires : tie.Need-short-requires
 short-requires c κs = search needs
 
--- src/crossing.rt:55:23
 add-word : tie.Need-add-word
 add-word c = search needs
 
--- src/crossing.rt:55:15
 word-requires-2 : tie.Need-word-requires-2
 word-requires-2 c κs = search needs
 
--- src/crossing.rt:55:9
 short-requires-2 : tie.Need-short-requires-2
 short-requires-2 c κs = search needs
 
--- src/crossing.rt:56:23
 add-word-2 : tie.Need-add-word-2
 add-word-2 c = search needs
 
--- src/crossing.rt:56:15
 word-requires-3 : tie.Need-word-requires-3
 word-requires-3 c κs = search needs
 
--- src/crossing.rt:56:9
 short-requires-3 : tie.Need-short-requires-3
 short-requires-3 c κs = search needs
 
--- src/crossing.rt:57:23
 add-word-3 : tie.Need-add-word-3
 add-word-3 c = search needs
 
--- src/crossing.rt:57:15
 word-requires-4 : tie.Need-word-requires-4
 word-requires-4 c κs = search needs
 
--- src/crossing.rt:57:9
 short-requires-4 : tie.Need-short-requires-4
 short-requires-4 c κs = search needs
 
--- src/crossing.rt:49:1
 returns : tie.Need-returns
-returns c = cc
+returns c = let args = c .before .before .before .before .before .before .before .before .before .args in
+    let a = c .before .before .before .before .before .before .short in
+    let b = c .before .before .before .before .short2 in
+    let d = c .before .before .short3 in
+    let e = c .short4 in
+    lens-made (args .w .now) (args .at) (a .result) (b .result) (d .result) (e .result)
+    (a .ensures ∙ ap shortOf (c .before .before .before .before .before .before .before .word .ensures))
+    (b .ensures ∙ ap shortOf (c .before .before .before .before .before .word2 .ensures))
+    (d .ensures ∙ ap shortOf (c .before .before .before .word3 .ensures))
+    (e .ensures ∙ ap shortOf (c .before .word4 .ensures))
 
 pub lens-of-spec : {M : Type 1} → statement M
 lens-of-spec =

@@ -50,12 +50,19 @@ loop-less : tie.Need-loop-less Inv-loop μ-loop
 loop-less c = search needs
 
 loop-again : tie.Need-loop-again Inv-loop μ-loop
-loop-again c = let l = c .before .before .before .before .before .before .loop in
-    let e = c .before .before .before .before .before .before .before .before .before .before .before .before .before .before .before .before .before .before .args .t2 in
-    let good = c .before .before .before .before .before .before .before .before .before .before .before .before .before .before .before .before .before .before .good in
+loop-again c = let first = c .before .before .before .before .before .before in
+    let l = first .loop in
+    let start = first .before .before .before .before .before .before .before .before .before .before .before .before in
+    let e = start .args .t2 in
+    let good = start .good in
     let n : 16 ≡ length (e .slots) = search (needs, long) in
-    let p = c .before .before .put-session .ensures in
-    (omega arith, (ap length p ∙ simp length-sets (l .inv .1 .0), slots-on (e .slots) (l .w) (c .before .before .put-session .last .0) (l .i) _ (omega arith) refl p (l .inv .1 .1)))
+    let p = c .before .before .put-session in (
+      omega arith,
+      (
+        ap length (p .ensures) ∙ simp length-sets (l .inv .1 .0),
+        slots-on (e .slots) (l .w) (p .last .0) (l .i) _ (omega arith) refl (p .ensures) (l .inv .1 .1),
+      ),
+    )
 
 same-length : tie.Need-same-length Inv-loop μ-loop
 same-length c = search needs
@@ -63,10 +70,15 @@ same-length c = search needs
 returns : tie.Need-returns Inv-loop μ-loop
 returns c = let l = c .before .loop in
     let e = c .before .before .before .before .before .before .before .before .before .before .before .before .before .args .t2 in
+    let w = c .before .before .before .before .before .before .before .before .before .before .before .before .before .args .w .now in
     let good = c .before .before .before .before .before .before .before .before .before .before .before .before .before .good in
     let n : 16 ≡ length (e .slots) = search (needs, long) in
+    let role = c .before .before .before .before .before .before .before .before .before .before .role-word in
+    let up = c .before .before .before .before .before .up-word in
+    let p = c .before .before .before .before .before .before .before .before .before .put in
+    let q = c .before .before .before .before .put2 in
     sym (slots-stop (e .slots) (l .w) (l .i) (omega arith)) ∙ l .inv .1 .1
-    ∙ end-words e (c .before .before .before .before .before .before .before .before .before .before .before .before .before .args .w .now) (c .before .before .before .before .before .before .before .before .before .put .last .0) (c .before .before .before .before .put2 .last .0) (c .before .before .before .before .before .before .before .before .before .before .role-word .result) (c .before .before .before .before .before .up-word .result) (c .before .before .before .before .before .before .before .before .before .before .role-word .ensures) (c .before .before .before .before .before .up-word .ensures) (c .before .before .before .before .before .before .before .before .before .put .ensures) (c .before .before .before .before .put2 .ensures)
+    ∙ end-words e w (p .last .0) (q .last .0) (role .result) (up .result) (role .ensures) (up .ensures) (p .ensures) (q .ensures)
 
 pub put-end-spec : {M : Type 1} → statement M
 put-end-spec =

@@ -53,8 +53,14 @@ loop-again : tie.Need-loop-again Inv-loop μ-loop
 loop-again c = let l = c .before .before .before .before .before .loop in
     let a = c .before .before .before .before .before .before .words-of .result in
     let n : length a ≡ 10 = ap length (c .before .before .before .before .before .before .words-of .ensures) in
-    let p = c .before .before .put .ensures in
-    (omega arith, (ap length p ∙ simp length-set (l .inv .1 .0), words-on a (l .w) (c .before .before .put .last .0) (slotAt (c .before .before .before .before .before .before .before .before .args .i)) (l .k) (omega arith) p (l .inv .1 .1)))
+    let p = c .before .before .put in
+    let at = slotAt (c .before .before .before .before .before .before .before .before .args .i) in (
+      omega arith,
+      (
+        ap length (p .ensures) ∙ simp length-set (l .inv .1 .0),
+        words-on a (l .w) (p .last .0) at (l .k) (omega arith) (p .ensures) (l .inv .1 .1),
+      ),
+    )
 
 same-length : tie.Need-same-length Inv-loop μ-loop
 same-length c = search needs
@@ -64,8 +70,8 @@ returns c = let l = c .before .loop in
     let a = c .before .before .words-of .result in
     let n : length a ≡ 10 = ap length (c .before .before .words-of .ensures) in
     let w = c .before .before .before .before .args .w .now in
-    sym (words-stop a (l .w) (slotAt (c .before .before .before .before .args .i)) (l .k) (omega arith)) ∙ l .inv .1 .1
-    ∙ ap (λ (v : List ℕ). sets w (slotAt (c .before .before .before .before .args .i)) v) (c .before .before .words-of .ensures)
+    let at = slotAt (c .before .before .before .before .args .i) in
+    sym (words-stop a (l .w) at (l .k) (omega arith)) ∙ l .inv .1 .1 ∙ ap (λ (v : List ℕ). sets w at v) (c .before .before .words-of .ensures)
 
 pub put-session-spec : {M : Type 1} → statement M
 put-session-spec =

@@ -1,6 +1,8 @@
--- Each word is as `word` and `short` say; at most 162 words are named.
+-- Each part is as `word`, `short` and `lens_of` say; at most 162 words are named.
+use mathlib.Core.Path.{ap, _∙_}
 use borrow.Author.Needs.{needs}
-use Rattle.bench.specs.Crossing.{sessionFrom}
+use Rattle.bench.specs.Crossing.{shortOf, stateOf}
+use Rattle.bench.proofs.Words.{session-made}
 use Rattle.bench.proofs.crossing.session_of.Statement.{statement}
 use Rattle.bench.proofs.crossing.session_of.Tie as tie
 
@@ -59,8 +61,18 @@ of-requires : tie.Need-of-requires
 of-requires c κs = search needs
 
 returns : tie.Need-returns
-unfolding sessionFrom
-returns c = cc
+returns c = let a = c .before .before .before .before .before .before .before .before .before .before .before .args in
+    let st = c .before .before .before .before .before .before .before .before .state-of in
+    let sid = c .before .before .before .before .before .before .short in
+    let s = c .before .before .before .before .before .word3 in
+    let h = c .before .before .before .before .word4 in
+    let r = c .before .before .before .word5 in
+    let g = c .before .before .word6 in
+    let l = c .before .lens-of in
+    session-made (a .w .now) (a .i) (c .of .result) (st .result) (sid .result) (s .result) (h .result) (r .result) (g .result) (l .result) (c .of .ensures)
+    (st .ensures ∙ ap stateOf (c .before .before .before .before .before .before .before .before .before .word .ensures))
+    (sid .ensures ∙ ap shortOf (c .before .before .before .before .before .before .before .word2 .ensures))
+    (s .ensures) (h .ensures) (r .ensures) (g .ensures) (l .ensures)
 
 pub session-of-spec : {M : Type 1} → statement M
 session-of-spec =

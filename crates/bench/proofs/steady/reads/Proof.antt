@@ -40,11 +40,16 @@ loop-less c = search needs
 loop-again : tie.Need-loop-again Inv-loop μ-loop
 loop-again c = let a = c .before .before .before .before .before .before .before .before .before .before .before .before .before .before .before .args in
     let l = c .before .before .before .before .before .before .before .before .before .before .before .loop in
-    let r = c .before .before .before .before .before .before .before .read in
+    let f = readStep (a .storage .now) (a .last) (a .step) in
+    let x = c .before .before .before .before .before .before .before .read in
+    let p = c .before .before .next-sid in
+    let q = c .before .tally in
     let g = readingOf (answerOf (l .number) (l .values) (l .sum) (l .e)) (l .sid) (l .payload) (l .ack) in
-    let turn = read-turn (a .storage .now) (a .last) (a .step) g (r .result) (r .last .1 .1 .1 .0) (r .last .1 .1 .1 .1 .0) (c .before .before .next-sid .result) (c .before .tally .result) (r .ensures)
-    (c .before .before .next-sid .ensures) (c .before .tally .ensures) in
-    (omega arith, (search needs, (search needs, times-on (readStep (a .storage .now) (a .last) (a .step)) (l .n) (a .count) g _ (c .before .before .before .before .before .before .before .before .before .before .loop-test .taken) turn (l .inv .1 .1 .1))))
+    let turn = read-turn (a .storage .now) (a .last) (a .step) g (x .result) (x .last .1 .1 .1 .0) (x .last .1 .1 .1 .1 .0)
+    (p .result) (q .result) (x .ensures) (p .ensures) (q .ensures) in
+    let here = c .before .before .before .before .before .before .before .before .before .before .loop-test .taken in
+    let rest = times-on f (l .n) (a .count) g _ here turn (l .inv .1 .1 .1) in
+    (omega arith, (search needs, (search needs, rest)))
 
 of-requires : tie.Need-of-requires Inv-loop μ-loop
 of-requires c κs = search needs

@@ -55,10 +55,16 @@ loop-less c = search needs
 loop-again : tie.Need-loop-again Inv-loop μ-loop
 loop-again c = let a = c .before .before .before .before .before .before .before .before .before .before .before .before .before .before .args in
     let l = c .before .before .before .before .before .before .before .before .before .before .before .loop in
-    let t = c .before .before .before .before .before .before .before .take in
+    let f = takeStep (a .bytes .now) in
+    let x = c .before .before .before .before .before .before .before .take in
+    let p = c .before .before .before .before .past in
+    let q = c .before .before .before .tally in
     let g = takingOf (answerOf (l .number) (l .values) (l .sum) (l .e)) (l .at) (l .storage) in
-    let turn = take-turn (a .bytes .now) g (t .result) (t .last .1 .1 .0) (c .before .before .before .before .past .result) (c .before .before .before .tally .result) (t .ensures) refl (c .before .before .before .before .past .ensures) (c .before .before .before .tally .ensures) in
-    (omega arith, (omega arith, (search needs, times-on (takeStep (a .bytes .now)) (l .n) (a .count) g _ (c .before .before .before .before .before .before .before .before .before .before .loop-test .taken) turn (l .inv .1 .1 .1))))
+    let turn = take-turn (a .bytes .now) g (x .result) (x .last .1 .1 .0) (p .result) (q .result) (x .ensures) refl (p .ensures) (q .ensures) in
+    let here = c .before .before .before .before .before .before .before .before .before .before .loop-test .taken in
+    let rest = times-on f (l .n) (a .count) g _ here turn (l .inv .1 .1 .1) in
+    let inside = p .ensures in
+    (omega (arith, here), (omega (arith, inside), (search needs, rest)))
 
 of-requires : tie.Need-of-requires Inv-loop μ-loop
 of-requires c κs = search needs
