@@ -1,5 +1,5 @@
 -- Laws of the loops: what a turn found is one step of the definition, and the steps that are left give what all of them give.
-use Prim.Native.Nat.{ℕ, zero, suc, _+_, _-_, _<_, _≤_}
+use Prim.Native.Nat.{ℕ, suc, _+_, _-_, _<_, _≤_}
 use native.Mathlib.Omega.{arith}
 use mathlib.Core.Path.{_≡_, sym, ap, subst, _∙_}
 use mathlib.Core.List.{List, [], _∷_}
@@ -13,9 +13,9 @@ use Rattle.read.specs.Read.{ReadPromise}
 use Rattle.take.specs.declared.Taken.{Taken}
 use Rattle.take.specs.Take.{TakePromise}
 use Rattle.bench.specs.Steady.{answerOf, zeros, tallyOf, pastOf, nextSid, times}
-use Rattle.bench.specs.Steady.{Sending, sendingOf, sentAnswer, sendStep, sendsOf}
-use Rattle.bench.specs.Steady.{Reading, readingOf, gotAnswer, readStep, readsOf}
-use Rattle.bench.specs.Steady.{Taking, takingOf, takenAnswer, takeStep, takesOf}
+use Rattle.bench.specs.Steady.{Sending, sendingOf, sendStep, sendsOf}
+use Rattle.bench.specs.Steady.{Reading, readingOf, readStep, readsOf}
+use Rattle.bench.specs.Steady.{Taking, takingOf, takeStep, takesOf}
 
 -- ---- any loop
 

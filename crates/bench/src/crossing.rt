@@ -45,9 +45,9 @@ fn state_of(x: u32) -> State
     }
 }
 
-// The four lengths in the words from one on.
+// The four lengths, in the words from one of the record on.
 fn lens_of(w: &[u32], at: usize) -> [u16; 4]
-    requires { ⌜ at < 256 ⌝ }
+    requires { ⌜ at < slotAt slotCount ⌝ }
     ensures { λ r. ⌜ r ≡ lensAt (now (w .entry)) at ⌝ }
 {
     [

@@ -1,11 +1,10 @@
 -- What the loop keeps: with the slots' words that are left put, all are put. The measure is how many slots are left.
-use Prim.Native.Nat.{_-_, _≤_, _<_}
+use Prim.Native.Nat.{_-_, _≤_}
 use native.Mathlib.Omega.{arith}
 use mathlib.Core.Path.{_≡_, refl, sym, ap, _∙_}
 use lib.ListN.{length, drop}
 use lib.Seq.{sets, length-sets}
 use borrow.Author.Needs.{needs}
-use Rattle.session.proofs.Past.{past}
 use Rattle.table.proofs.Slots.{long}
 use Rattle.bench.specs.Crossing.{slotAt, slotsWords}
 use Rattle.bench.proofs.Words.{slots-on, slots-stop, end-words}
