@@ -46,8 +46,8 @@ use Rattle.read.specs.Read.{readNumber, readCases, oldestLength, oldestIn, ackO
 use Rattle.close.specs.Close.{closeNumber, closeCases, finHeader, closeDone, closeRefused, closeOf, closePacket, ClosePromise}
 use Rattle.judge.specs.Number.{takeNumber, takeCases, packetCases, missing}
 use Rattle.take.specs.Take.{takenOn, takenEnd, takeDone, takeRefused, takeFault, takeAnswer, kept, takenStorage, takeOf, takeStorage, TakePromise}
+use Rattle.take.proofs.Answered.{take-told}
 use Rattle.laws.specs.Apart.{Alike, values, filedIn}
-use Rattle.laws.proofs.Exact.{take-told}
 use Rattle.laws.proofs.Own.{taken-same}
 
 -- ---- parts of an answer

@@ -36,10 +36,11 @@ use Rattle.close.specs.Close.{closeNumber, closeOf, closePacket, ClosePromise}
 use Rattle.shutdown.specs.Shutdown.{shutdownNumber, shutdownOf, ShutdownPromise}
 use Rattle.judge.specs.Number.{takeNumber, missing}
 use Rattle.take.specs.Take.{takeRefused, takeFault, takeOf, takeStorage, TakePromise}
+use Rattle.take.proofs.Answered.{take-told}
 use Rattle.laws.specs.When.{When, Applies, here, later, Exactly}
 use Rattle.laws.specs.Whens.{kindWhens, takeWhens}
 use Rattle.laws.specs.Lists.{Among, first, further, openList, sendList, readList, closeList, shutdownList, takeList}
-use Rattle.laws.proofs.Exact.{take-told, open-exact, send-exact, read-exact, close-exact, shutdown-exact, take-exact}
+use Rattle.laws.proofs.Exact.{open-exact, send-exact, read-exact, close-exact, shutdown-exact, take-exact}
 
 -- ---- the number is 0 or one of the call's list
 

@@ -43,6 +43,7 @@ use Rattle.close.specs.Close.{closeCases, closeNumber, closeOf, ClosePromise}
 use Rattle.shutdown.specs.Shutdown.{shutdownCases, shutdownNumber, shutdownOf, ShutdownPromise}
 use Rattle.judge.specs.Number.{isClient, synCases, otherCases, kindCases, packetCases, takeCases, takeNumber}
 use Rattle.take.specs.Take.{takeAnswer, takeOf, TakePromise}
+use Rattle.take.proofs.Answered.{take-told}
 use Rattle.laws.specs.When.{When, when, Exactly}
 use Rattle.laws.specs.Whens.{isWell, isUp, isHeld, Short, Enough, openWhens, sendWhens, readWhens, closeWhens, shutdownWhens, synWhens}
 use Rattle.laws.specs.Whens.{otherWhens, kindWhens, packetWhens, takeWhens}
@@ -263,14 +264,6 @@ take-match e bytes storage =
     (goes refl (some 1 refl) (plainly (e .up))
     (goes refl (some 9 refl) (below storage _)
     (goes refl (some 10 refl) (below (length bytes) headerLength) (packet-match e (readHeader bytes) (length bytes)))))
-
-pub take-told : (n : ℕ) (bytes : List ℕ) (e : End) → takeAnswer n bytes e .number ≡ n
-take-told n bytes e = by (eqb n 0) refl (ltb n 20) _ _ _ refl refl refl
-  where
-    by : (t : Bool) → eqb n 0 ≡ t → (u : Bool) (a b c : Taken) → a .number ≡ 0 → b .number ≡ n → c .number ≡ n → (if t a (if u b c)) .number ≡ n
-    by true q u a b c x y z = x ∙ sym (eqb-true n 0 q)
-    by false q true a b c x y z = y
-    by false q false a b c x y z = z
 
 pub take-exact : {e : End} {bytes lent exit : List ℕ} {r : Taken} → TakePromise e bytes lent r exit → Exactly (r .number) (takeWhens e bytes (length lent))
 unfolding takeOf takeNumber

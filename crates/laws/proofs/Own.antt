@@ -34,8 +34,8 @@ use Rattle.read.specs.Read.{readNumber, oldestLength, ackOn, readDone, readRefu
 use Rattle.close.specs.Close.{closeNumber, closeDone, closeRefused, closeOf, ClosePromise}
 use Rattle.judge.specs.Number.{takeNumber, missing}
 use Rattle.take.specs.Take.{takenOn, takenEnd, takeDone, takeRefused, takeOf, TakePromise}
+use Rattle.take.proofs.Answered.{take-told}
 use Rattle.laws.specs.Apart.{Others, its}
-use Rattle.laws.proofs.Exact.{take-told}
 
 -- ---- slots
 

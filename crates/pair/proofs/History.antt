@@ -15,3 +15,11 @@ pub mod Holding
 pub mod SameNumber
 -- 7: the FIN taken
 pub mod FinTaken
+-- 10: where each payload is
+pub mod Placed
+-- 11: a call that may go on does
+pub mod Progress
+-- 13: nothing gets stuck
+pub mod Drained
+-- 14: what a take tells of its packet
+pub mod OfHead

@@ -10,6 +10,7 @@ pub mod Takes
 -- what the histories of a lane show
 pub mod Story
 pub mod Told
+pub mod Closed
 -- a world, which is all lanes of a pair, its two tables and its two channels; its invariant, and that each act keeps it
 pub mod Tables
 pub mod World

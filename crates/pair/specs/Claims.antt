@@ -1,19 +1,22 @@
 -- What the theorems of demand 3 speak of: a session's own entries in a history, what was accepted and received, the session alone.
-use Prim.Native.Nat.{ℕ, suc, _*_, _<_, _≤_}
+use Prim.Native.Nat.{ℕ, suc, _*_, _-_, _<_, _≤_}
 use mathlib.Core.Path.{_≡_}
 use mathlib.Core.Logic.{_≢_, _⊎_}
-use mathlib.Core.Bool.{Bool, true, false, not}
+use mathlib.Core.Bool.{Bool, true, false, not, _&&_}
 use mathlib.Core.List.{List, [], _∷_, _++_}
 use mathlib.Core.Option.{Option, none, some}
 use lib.ListN.{length, take, drop, getD}
-use lib.Dec.{T, eqb}
+use lib.Dec.{T, eqb, ltb}
 use Rattle.cases.specs.Cases.{if, done}
 use Rattle.wire.specs.declared.kind.Kind.the-variants.{Syn, Fin}
-use Rattle.wire.specs.Packet.{flagsValue}
+use Rattle.wire.specs.Packet.{headerLength, field, flagsValue}
 use Rattle.session.specs.declared.record.Session.{Session}
-use Rattle.session.specs.Record.{free, inUse}
+use Rattle.session.specs.Record.{free, freshOf, inUse, finSent}
+use Rattle.table.specs.Limits.{Limits}
+use Rattle.table.specs.Storage.{storageLength}
 use Rattle.pair.specs.Side.{Side, client, server}
 use Rattle.pair.specs.Step.{Call, Open, Send, Read, Close, Take, shape, Step, Reply}
+use Rattle.pair.specs.Whose.{Marked}
 use Rattle.pair.specs.History.{Scene, Entry}
 
 -- ---- every entry, some entry
@@ -74,6 +77,9 @@ pub record FirstPart (a b : List (List ℕ)) : Type 0 where
 abbrev pub IsRead : Call → Type 0
 IsRead c = T (shape c .reads)
 
+abbrev pub IsClose : Call → Type 0
+IsClose c = T (shape c .closes)
+
 abbrev pub IsTake : Call → Type 0
 IsTake c = T (shape c .takes)
 
@@ -85,6 +91,12 @@ pub record Told (k : Side) (e : Entry) : Type 0 where
   pub side : e .step .side ≡ k
   pub read : IsRead (e .step .call)
   pub number : e .reply .number ≡ 11
+
+-- a close at that side answered 0
+pub record Ended (k : Side) (e : Entry) : Type 0 where
+  pub side : e .step .side ≡ k
+  pub close : IsClose (e .step .call)
+  pub number : e .reply .number ≡ 0
 
 -- that side took a FIN of session n
 pub record FinTaken (k : Side) (n : ℕ) (e : Entry) : Type 0 where
@@ -112,6 +124,10 @@ pub record Holds (x : Scene) (k : Side) (i n : ℕ) : Type 0 where
   pub used : inUse (slotAt x k i .state) ≡ true
   pub owner : x .book .notes k .owner i ≡ n
 
+-- what is lent of a side's storage is long enough
+abbrev pub Enough : Limits → Scene → Side → ℕ → Type 0
+Enough lim x k lent = storageLength (lim .place) (length (x .world k .end .slots)) ≤ length (take lent (x .world k .storage))
+
 -- ---- what a step may do
 
 -- neither a fault, nor 1, nor 12
@@ -120,14 +136,30 @@ pub record Fine (e : Entry) : Type 0 where
   pub up : e .reply .number ≢ 1
   pub made : e .reply .number ≢ 12
 
--- a packet taken with 0 is filed with the session that sent it: in one slot, which a SYN finds free, and in that slot's four places
+-- a packet taken with 0 is filed with the session that sent it: in one slot of the end, and in that slot's four places. A SYN finds the slot free
+-- and leaves a fresh session there, under the SID that take answers. Any other packet finds a session there under that SID. The slot stays in use
+-- but after a FIN in FIN SENT, and any other packet leaves a session in FIN SENT as it was.
 pub record OwnSlot (place : ℕ) (e : Entry) : Type 0 where
   pub slot : ℕ
+  pub within : slot < length (e .before .world (e .step .side) .end .slots)
   pub session : e .whose ≡ some (e .after .book .notes (e .step .side) .owner slot)
   pub found : inUse (slotAt (e .before) (e .step .side) slot .state) ≡ not (eqb (e .reply .kind) (flagsValue Syn))
+  pub fresh : e .reply .kind ≡ flagsValue Syn → slotAt (e .after) (e .step .side) slot ≡ freshOf (e .reply .sid)
+  pub number : e .reply .kind ≢ flagsValue Syn → e .reply .sid ≡ slotAt (e .before) (e .step .side) slot .sid
+  pub stays : inUse (slotAt (e .after) (e .step .side) slot .state)
+      ≡ not (finSent (slotAt (e .before) (e .step .side) slot .state) && eqb (e .reply .kind) (flagsValue Fin))
+  pub ignored : finSent (slotAt (e .before) (e .step .side) slot .state) ≡ true → e .reply .kind ≢ flagsValue Fin
+      → slotAt (e .after) (e .step .side) slot ≡ slotAt (e .before) (e .step .side) slot
   pub others : (j : ℕ) → j ≢ slot → slotAt (e .after) (e .step .side) j ≡ slotAt (e .before) (e .step .side) j
   pub bytes : (o : ℕ) → (o < 4 * place * slot) ⊎ (4 * place * suc slot ≤ o)
       → getD (e .after .world (e .step .side) .storage) o 0 ≡ getD (e .before .world (e .step .side) .storage) o 0
+
+-- what a take tells of the packet m at the head, where so many bytes were given: with 0 its kind and its length; with 10 how many bytes are missing,
+-- of sixteen where fewer are given, else of the packet
+pub record OfHead (m : Marked) (given : ℕ) (r : Reply) : Type 0 where
+  pub kind : r .number ≡ 0 → r .kind ≡ field 1 1 (m .bytes)
+  pub used : r .number ≡ 0 → r .used ≡ length (m .bytes)
+  pub missing : r .number ≡ 10 → r .missing ≡ if (ltb given headerLength) (headerLength - given) (length (m .bytes) - given)
 
 -- ---- the session alone: "the same steps come in the same order with the same payloads and the same lengths of buffers and storage, each
 -- take given just its packet; slot and number may differ"

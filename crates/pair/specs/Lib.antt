@@ -4,5 +4,7 @@ pub mod Step
 pub mod Whose
 pub mod History
 pub mod Claims
+pub mod Placed
+pub mod Drained
 pub mod Seen
 pub mod Runs

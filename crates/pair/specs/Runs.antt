@@ -5,17 +5,19 @@ use mathlib.Core.Path.{_≡_}
 use mathlib.Core.List.{List, [], _∷_, _++_, map}
 use mathlib.Core.Option.{Option, none, some}
 use lib.ListN.{replicate}
+use Rattle.cases.specs.Cases.{if, done}
 use Rattle.session.specs.declared.record.Session.{Session}
 use Rattle.session.specs.Record.{window, statedOf}
 use Rattle.table.specs.declared.end.Role.{Role}
 use Rattle.table.specs.declared.end.Role.the-variants.{Client, Server}
+use Rattle.table.specs.Slots.{heldCount}
 use Rattle.table.specs.End.{startedOf, putOf}
 use Rattle.table.specs.Limits.{Limits}
 use Rattle.pair.specs.Side.{Side, client, server}
 use Rattle.pair.specs.World.{Party}
-use Rattle.pair.specs.Step.{Call, Open, Send, Read, Close, Take, Step}
-use Rattle.pair.specs.History.{Scene, Entry, dawn, history}
-use Rattle.pair.specs.Claims.{own, received}
+use Rattle.pair.specs.Step.{Call, Open, Send, Read, Close, Take, shape, Step}
+use Rattle.pair.specs.History.{Scene, Entry, dawn, history, final}
+use Rattle.pair.specs.Claims.{own, accepted, received}
 
 -- a step, the number that it should get and the session that it should belong to
 pub record Line : Type 0 where
@@ -37,6 +39,11 @@ numbersIn h = map (λ (e : Entry). e .reply .number) h
 
 abbrev pub sessionsIn : List Entry → List (Option ℕ)
 sessionsIn h = map (λ (e : Entry). e .whose) h
+
+-- the kind and the SID that each take with 0 answered; the kinds are SYN 1, ACK 2, FIN 4, DATA 8
+unfoldable pub takenIn : List Entry → List (ℕ × ℕ)
+takenIn [] = []
+takenIn (e ∷ h) = if (shape (e .step .call) .takes) (done (e .reply .number) ((e .reply .kind, e .reply .sid) ∷ []) []) [] ++ takenIn h
 
 abbrev pub is : Side → Call → ℕ → Option ℕ → Line
 is k c n who = record { step = record { side = k; call = c }; number = n; whose = who }
@@ -62,6 +69,24 @@ row =
     ∷ is server (Read 0 2 16 32) 8 (some 0)
     ∷ is server (Take 16 32) 0 (some 0)
     ∷ is server (Read 0 2 16 32) 11 (some 0)
+    ∷ []
+
+-- a FIN meets unread rows: the writer has sent two and closed before the reader takes anything; he reads both, and no ACK is emitted and no room
+-- for one is needed; then he is told 11
+abbrev pub unreadRows : List Line
+unreadRows =
+    is client (Open 16) 0 (some 0)
+    ∷ is client (Send 0 (5 ∷ []) 17) 0 (some 0)
+    ∷ is client (Send 0 (6 ∷ 7 ∷ []) 18) 0 (some 0)
+    ∷ is client (Close 0 16) 0 (some 0)
+    ∷ is server (Take 100 32) 0 (some 0)
+    ∷ is server (Take 100 32) 0 (some 0)
+    ∷ is server (Take 100 32) 0 (some 0)
+    ∷ is server (Take 100 32) 0 (some 0)
+    ∷ is server (Read 0 4 0 32) 0 (some 0)
+    ∷ is server (Read 0 4 0 32) 0 (some 0)
+    ∷ is server (Read 0 4 0 32) 11 (some 0)
+    ∷ is client (Take 16 32) 10 none
     ∷ []
 
 -- a SID used again while the server still holds the old session under it: the FIN and the SYN both carry SID 0
@@ -136,18 +161,69 @@ wrapping =
 abbrev pub Goes : Scene → List Line → Type 0
 Goes x lines = (numbersIn (history (sized 4) x (steps lines)) ≡ numbers lines) × (sessionsIn (history (sized 4) x (steps lines)) ≡ sessions lines)
 
--- what the server received of session n
+-- what the client's sends of session n were accepted with, and what the server received of it
+abbrev pub Accepts : Scene → List Line → ℕ → List (List ℕ) → Type 0
+Accepts x lines n payloads = accepted client (own n (history (sized 4) x (steps lines))) ≡ payloads
+
 abbrev pub Arrives : Scene → List Line → ℕ → List (List ℕ) → Type 0
 Arrives x lines n payloads = received server (own n (history (sized 4) x (steps lines))) ≡ payloads
 
-abbrev pub Shown : Type 0
-Shown =
+-- what the takes with 0 answered, at either side
+abbrev pub Takes : Scene → List Line → List (ℕ × ℕ) → Type 0
+Takes x lines kinds = takenIn (history (sized 4) x (steps lines)) ≡ kinds
+
+-- how many sessions client and server hold where it ends
+abbrev pub heldAt : Side → Scene → ℕ
+heldAt k x = heldCount (x .world k .end .slots)
+
+abbrev pub Leaves : Scene → List Line → ℕ → ℕ → Type 0
+Leaves x lines n m = (heldAt client (final (sized 4) x (steps lines)) ≡ n) × (heldAt server (final (sized 4) x (steps lines)) ≡ m)
+
+abbrev pub ShownRow : Type 0
+ShownRow =
     Goes two row
+    × Accepts two row 0 ((7 ∷ 8 ∷ []) ∷ [])
     × Arrives two row 0 ((7 ∷ 8 ∷ []) ∷ [])
-    × Goes two again
+    × Takes two row ((1, 0) ∷ (8, 0) ∷ (4, 0) ∷ [])
+    × Leaves two row 1 1
+
+abbrev pub ShownUnread : Type 0
+ShownUnread =
+    Goes two unreadRows
+    × Accepts two unreadRows 0 ((5 ∷ []) ∷ (6 ∷ 7 ∷ []) ∷ [])
+    × Arrives two unreadRows 0 ((5 ∷ []) ∷ (6 ∷ 7 ∷ []) ∷ [])
+    × Takes two unreadRows ((1, 0) ∷ (8, 0) ∷ (8, 0) ∷ (4, 0) ∷ [])
+    × Leaves two unreadRows 1 1
+
+abbrev pub ShownAgain : Type 0
+ShownAgain =
+    Goes two again
+    × Accepts two again 0 []
     × Arrives two again 0 []
+    × Accepts two again 1 ((9 ∷ []) ∷ [])
     × Arrives two again 1 ((9 ∷ []) ∷ [])
-    × Goes two crossing
-    × Goes late wrapping
+    × Takes two again ((1, 0) ∷ (4, 0) ∷ (4, 0) ∷ (1, 0) ∷ (8, 0) ∷ [])
+    × Leaves two again 1 1
+
+abbrev pub ShownCrossing : Type 0
+ShownCrossing = Goes two crossing × Takes two crossing ((1, 0) ∷ (4, 0) ∷ (4, 0) ∷ []) × Leaves two crossing 0 0
+
+abbrev pub ShownWrapping : Type 0
+ShownWrapping =
+    Goes late wrapping
+    × Accepts late wrapping 0 ((1 ∷ []) ∷ (2 ∷ []) ∷ (3 ∷ []) ∷ [])
     × Arrives late wrapping 0 ((1 ∷ []) ∷ (2 ∷ []) ∷ (3 ∷ []) ∷ [])
-    × (numbersIn (history (sized 1) sixteen many) ≡ replicate 16 0 ++ (3 ∷ replicate 16 0 ++ (10 ∷ [])))
+    × Takes late wrapping ((8, 0) ∷ (8, 0) ∷ (8, 0) ∷ (2, 0) ∷ [])
+    × Leaves late wrapping 1 1
+
+abbrev pub ShownMany : Type 0
+ShownMany =
+    (numbersIn (history (sized 1) sixteen many) ≡ replicate 16 0 ++ (3 ∷ replicate 16 0 ++ (10 ∷ [])))
+    × (map (λ (t : ℕ × ℕ). t .0) (takenIn (history (sized 1) sixteen many)) ≡ replicate 16 1)
+    × (map (λ (t : ℕ × ℕ). t .1) (takenIn (history (sized 1) sixteen many))
+    ≡ 0 ∷ 1 ∷ 2 ∷ 3 ∷ 4 ∷ 5 ∷ 6 ∷ 7 ∷ 8 ∷ 9 ∷ 10 ∷ 11 ∷ 12 ∷ 13 ∷ 14 ∷ 15 ∷ [])
+    × (heldAt client (final (sized 1) sixteen many) ≡ 16)
+    × (heldAt server (final (sized 1) sixteen many) ≡ 16)
+
+abbrev pub Shown : Type 0
+Shown = ShownRow × ShownUnread × ShownAgain × ShownCrossing × ShownWrapping × ShownMany

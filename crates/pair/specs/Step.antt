@@ -35,17 +35,18 @@ pub record Shape : Type 0 where
   pub names : Option ℕ
   -- the payload that it offers
   pub offers : Option (List ℕ)
-  -- it begins a session, hands over a payload, takes a packet
+  -- it begins a session, hands over a payload, ends what its side writes, takes a packet
   pub opens : Bool
   pub reads : Bool
+  pub closes : Bool
   pub takes : Bool
 
 abbrev pub shape : Call → Shape
-shape (Open room) = record { names = none; offers = none; opens = true; reads = false; takes = false }
-shape (Send sid payload room) = record { names = some sid; offers = some payload; opens = false; reads = false; takes = false }
-shape (Read sid room ack lent) = record { names = some sid; offers = none; opens = false; reads = true; takes = false }
-shape (Close sid room) = record { names = some sid; offers = none; opens = false; reads = false; takes = false }
-shape (Take given lent) = record { names = none; offers = none; opens = false; reads = false; takes = true }
+shape (Open room) = record { names = none; offers = none; opens = true; reads = false; closes = false; takes = false }
+shape (Send sid payload room) = record { names = some sid; offers = some payload; opens = false; reads = false; closes = false; takes = false }
+shape (Read sid room ack lent) = record { names = some sid; offers = none; opens = false; reads = true; closes = false; takes = false }
+shape (Close sid room) = record { names = some sid; offers = none; opens = false; reads = false; closes = true; takes = false }
+shape (Take given lent) = record { names = none; offers = none; opens = false; reads = false; closes = false; takes = true }
 
 pub record Step : Type 0 where
   pub side : Side

@@ -1,5 +1,5 @@
--- A session's own entries in a run of the pair, and the events of its lane: the same payloads are accepted and handed over, and a read is
--- told 11 where the lane's read is. The open and the take of the SYN are entries without an event, and show no payload.
+-- A session's own entries in a run of the pair, and the events of its lane: the same payloads are accepted and handed over, a read is told 11
+-- where the lane's read is, and a close is done where the lane's is. The open and the take of the SYN are entries without an event, and show no payload.
 -- So what was received in a session is a first part of what was accepted, all of it once told 11, and both are just what its lane's halves hold.
 use Prim.Native.Nat.{ℕ, zero, suc}
 use native.Mathlib.Omega.{arith}
@@ -8,7 +8,7 @@ use mathlib.Core.Logic.{inl, inr, ⊎-elim}
 use mathlib.Core.Bool.{Bool, true, false, cond}
 use mathlib.Core.List.{List, [], _∷_, _++_}
 use mathlib.Core.Option.{none, some}
-use lib.Dec.{eqb, leb→le}
+use lib.Dec.{T, eqb, leb→le}
 use Rattle.cases.specs.Cases.{if, done}
 use Rattle.cases.proofs.First.{done-not}
 use Rattle.table.specs.Limits.{Limits}
@@ -16,7 +16,9 @@ use Rattle.pair.specs.Side.{Side, client, server, other}
 use Rattle.pair.proofs.Lane.Half.{Bytes, accOf, Out}
 use Rattle.pair.proofs.Lane.Outcomes.{send-all, read-all, close-all}
 use Rattle.pair.proofs.Lane.Lane as lane
-use Rattle.pair.proofs.Lane.Lane.{moved, stOf, half, Event, event, tookIf, took, gave, onlyAt, reads, Lane}
+use Rattle.pair.proofs.Lane.Lane.{begin, moved, stOf, half, Event, event, tookIf, took, gave, onlyAt, reads, Lane}
+use Rattle.pair.proofs.Lane.Inv.{closes, start}
+use Rattle.pair.proofs.Lane.Closed.{Closes, closed-history, closed-all}
 use Rattle.pair.proofs.Lane.Story.{head-taken, reads-is, accepted-is}
 use Rattle.pair.proofs.Lane.Told as lane-told
 use Rattle.pair.proofs.Lane.Told.{Tells}
@@ -26,7 +28,7 @@ use Rattle.pair.proofs.Lane.Heads.{packet-toward}
 use Rattle.pair.proofs.Lane.Apart.{isolated, isolated-lane, events-first-part, events-told-whole}
 use Rattle.pair.specs.Step.{Step, Reply}
 use Rattle.pair.specs.History.{Scene, Entry, entry, history}
-use Rattle.pair.specs.Claims.{own, only, sent, got, accepted, received, Some, Told, FirstPart}
+use Rattle.pair.specs.Claims.{own, only, sent, got, accepted, received, Some, Told, Ended, FirstPart}
 use Rattle.pair.proofs.Bytes.Encoded.{handed}
 use Rattle.pair.proofs.Mirror.Scene.{Mirror}
 use Rattle.pair.proofs.Steps.Performs.{Performs, opening, greeting, taking, sending, reading, closing, Acted}
@@ -62,12 +64,15 @@ record Shows (e : Entry) (v : Event) : Type 0 where
   sent : sent (e .step .call) (e .reply) ≡ took (v .call) (v .ans)
   got : got (e .step .call) (e .reply) ≡ gave (v .pay)
   told : (k : Side) → Told k e → Tells k v
+  ends : (k : Side) → Ended k e → Closes k v
+  ended : (k : Side) → Closes k v → Ended k e
 
 -- an entry shows nothing
 record Quiet (e : Entry) : Type 0 where
   sent : sent (e .step .call) (e .reply) ≡ []
   got : got (e .step .call) (e .reply) ≡ []
   told : (k : Side) → Told k e → ⊥
+  ends : (k : Side) → Ended k e → ⊥
 
 took-is : (n : ℕ) (p : Bytes) → done n (p ∷ []) [] ≡ tookIf n p
 took-is zero p = refl
@@ -83,12 +88,16 @@ module _ {slots : ℕ} {lim : Limits} {x : Scene} {W : World} where
     sent = refl;
     got = ap gave (sym (head-taken (W .lanes n) (m .inv .good n) k p _ (packet-toward (m .inv) k n p l e) .dry));
     told = λ j t. absurd (t .read);
+    ends = λ j t. absurd (t .close);
+    ended = λ j t. absurd (t .1);
   }
   event-of s k n c m (sending {p = p} i) d = record {
     side = refl;
     sent = ap (λ (r : Reply). done (r .number) (p ∷ []) []) (d .reply) ∙ took-is (moved k c (W .lanes n) .out .ans) p;
     got = sym (send-all (λ (o : Out). gave (o .pay) ≡ []) (half k (W .lanes n)) p _ (stOf k (W .lanes n)) (λ a t u. refl) (λ e t u. refl));
     told = λ j t. absurd (t .read);
+    ends = λ j t. absurd (t .close);
+    ended = λ j t. absurd (t .1);
   }
   event-of s k n c m (reading i) d = record {
     side = refl;
@@ -98,20 +107,24 @@ module _ {slots : ℕ} {lim : Limits} {x : Scene} {W : World} where
         ∙ read-all (λ (o : Out). done (o .ans) (handed (o .pay) ∷ []) [] ≡ gave (o .pay)) (half k (W .lanes n)) _ (stOf k (W .lanes n))
         (λ a t u. done-not a _ _ (omega (arith, leb→le 4 a t))) (λ e p u q. refl) (λ e p u q. refl);
     told = λ j t. (t .side, tt, sym (ap (λ (r : Reply). r .number) (d .reply)) ∙ t .number);
+    ends = λ j t. absurd (t .close);
+    ended = λ j t. absurd (t .1);
   }
   event-of s k n c m (closing i) d = record {
     side = refl;
     sent = refl;
     got = sym (close-all (λ (o : Out). gave (o .pay) ≡ []) (half k (W .lanes n)) _ (stOf k (W .lanes n)) (λ a t u. refl) (λ e. refl) (λ e. refl));
     told = λ j t. absurd (t .read);
+    ends = λ j t. (t .side, tt, sym (ap (λ (r : Reply). r .number) (d .reply)) ∙ t .number);
+    ended = λ j t. record { side = t .0; close = tt; number = ap (λ (r : Reply). r .number) (d .reply) ∙ t .2 };
   }
 
   -- an open, or the take of a SYN
   quiet-dial : (s : Step) (y : ℕ) → Performs slots lim x W s (dial y) → Quiet (entry lim x s)
-  quiet-dial s y (opening h r) = record { sent = refl; got = refl; told = λ k t. t .read }
+  quiet-dial s y (opening h r) = record { sent = refl; got = refl; told = λ k t. t .read; ends = λ k t. t .close }
 
   quiet-greet : (s : Step) → Performs slots lim x W s greet → Quiet (entry lim x s)
-  quiet-greet s (greeting e g) = record { sent = refl; got = refl; told = λ k t. t .read }
+  quiet-greet s (greeting e g) = record { sent = refl; got = refl; told = λ k t. t .read; ends = λ k t. t .close }
 
 -- ---- all of them
 
@@ -119,10 +132,12 @@ pub record Agrees (h : List Entry) (t : List Event) : Type 0 where
   pub accepted : (k : Side) → accepted k h ≡ lane.accepted k t
   pub received : (k : Side) → received k h ≡ reads k t
   pub told : (k : Side) → Some (Told k) h → lane-told.Some (Tells k) t
+  pub ends : (k : Side) → Some (Ended k) h → lane-told.Some (Closes k) t
+  pub ended : (k : Side) → lane-told.Some (Closes k) t → Some (Ended k) h
 
 agrees-none : Agrees [] []
 unfolding accepted received
-agrees-none = record { accepted = λ k. refl; received = λ k. refl; told = λ k t. absurd t }
+agrees-none = record { accepted = λ k. refl; received = λ k. refl; told = λ k t. absurd t; ends = λ k t. absurd t; ended = λ k t. absurd t }
 
 agrees-show : {e : Entry} {v : Event} {h : List Entry} {t : List Event} → Shows e v → Agrees h t → Agrees (e ∷ h) (v ∷ t)
 unfolding accepted received
@@ -130,6 +145,8 @@ agrees-show {e} {v} {h} {t} s a = record {
   accepted = λ k. ap₂ _++_ (same k (s .sent)) (a .accepted k);
   received = λ k. ap₂ _++_ (same k (s .got)) (a .received k);
   told = λ k. ⊎-elim (λ u. inl (s .told k u)) (λ u. inr (a .told k u));
+  ends = λ k. ⊎-elim (λ u. inl (s .ends k u)) (λ u. inr (a .ends k u));
+  ended = λ k. ⊎-elim (λ u. inl (s .ended k u)) (λ u. inr (a .ended k u));
 }
   where
     same : {p q : List Bytes} (k : Side) → p ≡ q → only k (e .step .side) p ≡ onlyAt k (v .side) q
@@ -141,6 +158,8 @@ agrees-quiet {e} {h} {t} q a = record {
   accepted = λ k. nothing k (q .sent) (accepted k h) ∙ a .accepted k;
   received = λ k. nothing k (q .got) (received k h) ∙ a .received k;
   told = λ k. ⊎-elim (λ u. absurd (q .told k u)) (a .told k);
+  ends = λ k. ⊎-elim (λ u. absurd (q .ends k u)) (a .ends k);
+  ended = λ k u. inr (a .ended k u);
 }
   where
     nothing : {p : List Bytes} (k : Side) → p ≡ [] → (l : List Bytes) → only k (e .step .side) p ++ l ≡ l
@@ -201,3 +220,10 @@ module _ {slots : ℕ} {lim : Limits} {x : Scene} {ss : List Step} {t : List Act
       ∙ accepted-is k (stepsOf n t)
       ∙ ap (lane.accepted k) (sym (isolated n t dawn))
       ∙ sym (run-agrees n l .accepted k)
+
+  -- the half has closed exactly if a close of the session at that side answered 0
+  pub half-closed : Some (Ended k) (own n (history lim x ss)) → T (closes (stOf k (ends dawn t .lanes n)))
+  half-closed s = rw (isolated-lane n t dawn) (closed-all begin start k (stepsOf n t) (rw (isolated n t dawn) at (run-agrees n l .ends k s)))
+
+  pub closed-half : T (closes (stOf k (ends dawn t .lanes n))) → Some (Ended k) (own n (history lim x ss))
+  closed-half c = run-agrees n l .ended k (rw (isolated n t dawn) (closed-history (stepsOf n t) k (rw (isolated-lane n t dawn) at c)))

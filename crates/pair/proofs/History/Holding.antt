@@ -1,22 +1,24 @@
 -- What a slot that holds a session says of its lane, at a mirrored scene: a read in FIN RECEIVED with nothing unread is told 11; and where
--- both halves are ESTABLISHED, nothing is on its way and all is read, the window is open at both, and a send is accepted.
+-- both halves are ESTABLISHED, nothing is on its way and the other side has read all, the window is open, and a send is accepted.
 use Prim.Native.Nat.{ℕ, _+_, _≤_}
 use native.Mathlib.Omega.{arith}
 use mathlib.Core.Path.{_≡_, refl, sym, ap, _∙_, subst}
 use mathlib.Core.Bool.{true, false}
 use mathlib.Core.List.{List, [], _∷_}
 use lib.ListN.{length}
+use lib.Dec.{T}
 use borrow.Author.Tests.{le-ltb, lt-leb}
 use Rattle.wire.specs.Packet.{headerLength}
 use Rattle.session.specs.declared.record.State.the-variants.{Established}
 use Rattle.session.specs.Counter.{minus}
 use Rattle.session.specs.Record.{finSent, inUse, unread}
 use Rattle.table.specs.Limits.{Limits}
-use Rattle.pair.specs.Side.{Side}
+use Rattle.pair.specs.Side.{Side, other}
 use Rattle.pair.proofs.Lane.Half.{St, est, fr, sOf, send}
-use Rattle.pair.proofs.Lane.Lane.{stOf, half}
+use Rattle.pair.proofs.Lane.Lane.{get, stOf, half}
+use Rattle.pair.proofs.Lane.Inv.{closes}
 use Rattle.pair.proofs.Lane.Story.{window-opens}
-use Rattle.pair.proofs.Lane.Told.{told-eleven}
+use Rattle.pair.proofs.Lane.Told.{told-eleven, told-at}
 use Rattle.pair.proofs.Lane.World.{pick, World}
 use Rattle.pair.specs.Step.{Send, Read, Reply, replyTo}
 use Rattle.pair.specs.History.{Scene}
@@ -29,7 +31,7 @@ use Rattle.pair.proofs.Steps.Performs.{sendRoom, readRoom}
 use Rattle.pair.proofs.Steps.Sending.{acted-sending}
 use Rattle.pair.proofs.Steps.Reading.{acted-reading}
 
-none-left : {A : Type 0} (l : List A) → length l ≡ 0 → l ≡ []
+pub none-left : {A : Type 0} (l : List A) → length l ≡ 0 → l ≡ []
 none-left [] e = refl
 none-left (a ∷ l) e = absurd (omega arith)
 
@@ -55,16 +57,24 @@ module _ {slots : ℕ} {lim : Limits} {x : Scene} {W : World} (m : Mirror slots 
         ap (λ (r : Reply). r .number) (acted-reading m (record { listed = held .listed; name = sym (held .stands .sid) }) room ack lent .reply)
         ∙ told-eleven (W .lanes n) k (readRoom slots lim room ack lent (length (x .world k .storage))) e u
 
-  -- both halves ESTABLISHED, nothing on its way, all read
+    -- a read that answers 11 tells that the other half has closed
+    pub read-eleven : (room ack lent : ℕ) → replyTo lim (record { side = k; call = Read (slotAt x k i .sid) room ack lent }) (x .world) .number ≡ 11
+        → T (closes (stOf (other k) (W .lanes n)))
+    read-eleven room ack lent e =
+        let r = acted-reading m (record { listed = held .listed; name = sym (held .stands .sid) }) room ack lent .reply in
+        told-at (W .lanes n) (m .inv .good n) k (get (readRoom slots lim room ack lent (length (x .world k .storage)))) tt
+        (sym (ap (λ (r : Reply). r .number) r) ∙ e) .closed
+
+  -- both halves ESTABLISHED, nothing on its way, all read at the other side
   module _ (n : ℕ) (i : Side → ℕ) (h : (k : Side) → Holds x k (i k) n) (e : (k : Side) → slotAt x k (i k) .state ≡ Established)
-      (c : (k : Side) → x .world k .coming ≡ []) (z : (k : Side) → unread (slotAt x k (i k)) ≡ 0) (k : Side) where
+      (c : (k : Side) → x .world k .coming ≡ []) (k : Side) (z : unread (slotAt x (other k) (i (other k))) ≡ 0) where
     both : (k : Side) → stOf k (W .lanes n) ≡ est
     both k = held-state k (i k) n (h k) est (e k)
 
     opens : half k (W .lanes n) .high ≡ sOf (half k (W .lanes n)) + 4
     opens =
-        window-opens (W .lanes n) (m .inv .good n) both (λ k. sym (m .inv .queue k n) ∙ ap (pick n) (no-items m k (c k)))
-        (λ k. held-read k (i k) n (h k) est (both k) refl refl (z k)) k
+        window-opens (W .lanes n) (m .inv .good n) both (λ k. sym (m .inv .queue k n) ∙ ap (pick n) (no-items m k (c k))) k
+        (held-read (other k) (i (other k)) n (h (other k)) est (both (other k)) refl refl z)
 
     pub window-open : minus (slotAt x k (i k) .h) (slotAt x k (i k) .s) ≡ 4
     window-open = whole-window (held k (i k) n (h k) .stands) (ranges-of m k n) opens

@@ -116,6 +116,14 @@ pub count : {sx : St} {sent : List Bytes} {g : ℕ} {l : List Packet} {s : St} {
     → (d : Dir sx sent g l s got unread h) → length sent ≡ length got + length unread + length (d .lost) + length (pays l)
 count d = ap length (d .whole) ∙ simp length-append
 
+-- a half that keeps what arrives has ignored nothing
+pub none-lost : (s : St) → T (keeps s) → {sx : St} {sent : List Bytes} {g : ℕ} {l : List Packet} {got unread : List Bytes} {h : ℕ}
+    → (d : Dir sx sent g l s got unread h) → d .lost ≡ []
+none-lost est t d = d .kept .0
+none-lost fr t d = d .kept .0
+none-lost fs t d = absurd t
+none-lost gone t d = absurd t
+
 -- ---- a direction after a step
 
 module _ {sx : St} {sent : List Bytes} {g : ℕ} {l : List Packet} {s : St} {got unread : List Bytes} {h : ℕ} (d : Dir sx sent g l s got unread h) where

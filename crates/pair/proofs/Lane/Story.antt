@@ -132,13 +132,13 @@ reads-first-part h k =
 pub emitted-all : (h : List Step) (k : Side) → emitted k (trace begin h) ≡ accepted k (trace begin h)
 emitted-all h k = sym (emitted-is k h) ∙ accepted-is k h
 
--- ---- the window opens: where both halves are ESTABLISHED, nothing is on its way and all is read, each may send four
+-- ---- the window opens: where both halves are ESTABLISHED, nothing is on its way and the other has read all, a half may send four
 
 -- H is the last WNDW that arrived, which is the last sent, which is the other's G: four more than it has read, all that was accepted
 opens : (X Y : Body) → Inv est X est Y [] [] → Y .unread ≡ [] → X .high ≡ sOf X + 4
 opens X Y i e = let n = count (i .fwd) in
     omega (arith, ap length e, ap length (i .fwd .kept .0), i .bwd .kept .1, i .bwd .flow .1, i .bwd .news)
 
-pub window-opens : (L : Lane) → Good L → ((k : Side) → stOf k L ≡ est) → ((k : Side) → toward k L ≡ []) → ((k : Side) → half k L .unread ≡ [])
-    → (k : Side) → half k L .high ≡ sOf (half k L) + 4
-window-opens L i s t u k = opens (half k L) (half (other k) L) (rw (s k, s (other k), t k, t (other k)) at (seen L i k)) (u (other k))
+pub window-opens : (L : Lane) → Good L → ((k : Side) → stOf k L ≡ est) → ((k : Side) → toward k L ≡ []) → (k : Side) → half (other k) L .unread ≡ []
+    → half k L .high ≡ sOf (half k L) + 4
+window-opens L i s t k u = opens (half k L) (half (other k) L) (rw (s k, s (other k), t k, t (other k)) at (seen L i k)) u

@@ -60,7 +60,7 @@ module _ {sx : St} {X : Body} {xy yx : List Packet} where
 
 -- ---- and stays true: the writer accepts no more, and what was read stays a first part of it
 
-closed-step : (L : Lane) → Good L → (k j : Side) (c : Call) → T (closes (stOf k L))
+pub closed-step : (L : Lane) → Good L → (k j : Side) (c : Call) → T (closes (stOf k L))
     → T (closes (stOf k (land j L (moved j c L)))) × (accOf (half k (land j L (moved j c L))) ≡ accOf (half k L))
 closed-step L i client client c t = moved-fine L i client c .shut t
 closed-step L i client server c t = (t, refl)
@@ -96,7 +96,7 @@ abbrev pub Some : (Event → Type 0) → List Event → Type 0
 Some P [] = ⊥
 Some P (e ∷ t) = P e ⊎ Some P t
 
-told-at : (L : Lane) → Good L → (k : Side) (c : Call) → IsGet c → moved k c L .out .ans ≡ 11 → ToldAt k L
+pub told-at : (L : Lane) → Good L → (k : Side) (c : Call) → IsGet c → moved k c L .out .ans ≡ 11 → ToldAt k L
 told-at L i k (get R) g a = told-now R (stOf k L) (half k L) (seen L i k) a
 told-at L i k (put p R) g a = absurd g
 told-at L i k (shut R) g a = absurd g

@@ -20,7 +20,7 @@ use Rattle.session.proofs.Wrap.{minus-counts, plus-counts}
 use Rattle.table.specs.Storage.{placeStart}
 use Rattle.table.specs.Limits.{Limits}
 use Rattle.pair.proofs.Lane.Half.{Bytes, St, est, fs, fr, gone, Body, sOf, gOf, rOf, fresh}
-use Rattle.pair.proofs.Lane.Inv.{Ranges}
+use Rattle.pair.proofs.Lane.Inv.{keeps, Ranges}
 use Rattle.pair.proofs.Lane.World.{live}
 
 abbrev pub stateOf : St → State
@@ -57,6 +57,13 @@ used-live est u = tt
 used-live fs u = tt
 used-live fr u = tt
 used-live gone u = never u
+
+-- and keeps what arrives unless it has closed
+pub open-keeps : (s : St) → finSent (stateOf s) ≡ false → inUse (stateOf s) ≡ true → T (keeps s)
+open-keeps est f u = tt
+open-keeps fr f u = tt
+open-keeps fs f u = never (sym f)
+open-keeps gone f u = never u
 
 -- the payload p lies in the place of SEQNUM q in slot i: its length stands in the record, its bytes in the storage
 pub record Lies (lim : Limits) (i : ℕ) (storage lens : List ℕ) (q : ℕ) (p : Bytes) : Type 0 where
