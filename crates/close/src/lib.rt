@@ -10,9 +10,13 @@ use wire::header::Header;
 
 pub mod decide;
 
+// What close answers. After a refusal length is 0.
 pub struct Closed {
+    // 0, or the number of the refusal: 12, 1, 4, 5, 9.
     pub number: u8,
+    // How many bytes at the front of `packet` are the FIN: 16.
     pub length: usize,
+    // The end after the close; after a refusal the end as it was given.
     pub end: End,
 }
 
@@ -38,6 +42,8 @@ impl Closed {
     }
 }
 
+// Ends what this side writes in the session `sid`: its FIN goes to the front of `packet`, for the transport. ESTABLISHED becomes FIN SENT, and FIN
+// RECEIVED a free slot: what was unread is lost. Later bytes of `packet` and every other slot stay. A refusal changes nothing.
 pub fn close(e: End, sid: u16, packet: &mut [u8]) -> Closed
     ensures { λ r. ⌜ ClosePromise e sid (now (packet .entry)) r (now (packet .exit)) ⌝ }
 {

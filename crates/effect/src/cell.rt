@@ -15,6 +15,7 @@ pub enum Cell {
     Fault,
 }
 
+// What document 01's table says for a packet of that kind in that state; a fault where the table has no cell.
 pub fn cell_of(st: State, k: Kind) -> Cell
     ensures { λ r. ⌜ r ≡ cellOf st k ⌝ }
 {

@@ -11,10 +11,15 @@ use wire::header::Header;
 
 pub mod decide;
 
+// What open answers. After a refusal sid and length are 0.
 pub struct Opened {
+    // 0, or the number of the refusal: 12, 1, 2, 3, 9.
     pub number: u8,
+    // The new session's SID, for every later call on it.
     pub sid: u16,
+    // How many bytes at the front of `packet` are the SYN: 16.
     pub length: usize,
+    // The end with the new session; after a refusal the end as it was given.
     pub end: End,
 }
 
@@ -42,6 +47,8 @@ impl Opened {
     }
 }
 
+// Begins a session at a client: the smallest SID not in the table, the lowest free slot. Its SYN goes to the front of `packet`, for the transport;
+// later bytes of `packet` and every other slot stay. A refusal changes nothing.
 pub fn open(e: End, packet: &mut [u8]) -> Opened
     ensures { λ r. ⌜ OpenPromise e (now (packet .entry)) r (now (packet .exit)) ⌝ }
 {

@@ -23,10 +23,15 @@ use wire::header::Header;
 
 pub mod decide;
 
+// What read answers. After a refusal both lengths are 0.
 pub struct Got {
+    // 0, or the number of the refusal: 12, 1, 4, 5, 8, 11, 9. 11 means that the writer has ended and all was read.
     pub number: u8,
+    // How many bytes at the front of `payload` were handed over; 0 for an empty payload too.
     pub payload_length: usize,
+    // How many bytes at the front of `ack` are the ACK: 16 in ESTABLISHED, 0 in FIN RECEIVED.
     pub ack_length: usize,
+    // The end after the read; after a refusal the end as it was given.
     pub end: End,
 }
 
@@ -77,6 +82,8 @@ fn hand_over(payload: &mut [u8], storage: &[u8], slot: usize, seqnum: u32, n: us
     copy_in(payload, 0, &storage[at..at + n]);
 }
 
+// Hands over the oldest unread payload of the session `sid`, from its place in the storage to the front of `payload`. G grows by 1, and in ESTABLISHED
+// an ACK goes to the front of `ack`, for the transport. The storage, later bytes of both buffers and every other slot stay. A refusal changes nothing.
 pub fn read(e: End, sid: u16, storage: &[u8], payload: &mut [u8], ack: &mut [u8]) -> Got
     ensures { λ r. ⌜ ReadPromise e sid (now (storage .entry)) (now (payload .entry)) (now (ack .entry)) r (now (payload .exit)) (now (ack .exit)) ⌝ }
 {

@@ -10,9 +10,13 @@ use wire::header::Header;
 
 pub mod decide;
 
+// What send answers. After a refusal length is 0.
 pub struct Sent {
+    // 0, or the number of the refusal: 12, 1, 4, 5, 6, 7, 9.
     pub number: u8,
+    // How many bytes at the front of `packet` are the DATA: 16 and the payload's.
     pub length: usize,
+    // The end after the send; after a refusal the end as it was given.
     pub end: End,
 }
 
@@ -38,6 +42,8 @@ impl Sent {
     }
 }
 
+// Sends one payload of at most 512 bytes in the session `sid`: as DATA at the front of `packet`, for the transport. S grows by 1; later bytes of
+// `packet` and every other slot stay. A refusal changes nothing: after 7 (the window is closed) try again when the peer's ACK was taken.
 pub fn send(e: End, sid: u16, payload: &[u8], packet: &mut [u8]) -> Sent
     ensures { λ r. ⌜ SendPromise e sid (now (payload .entry)) (now (packet .entry)) r (now (packet .exit)) ⌝ }
 {

@@ -6,8 +6,11 @@ use cases::number;
 use scan::scan;
 use table::end::End;
 
+// What shutdown answers.
 pub struct Stopped {
+    // 0, or the number of the refusal: 12, 1.
     pub number: u8,
+    // The end, down; after a refusal the end as it was given.
     pub end: End,
 }
 
@@ -32,6 +35,7 @@ pub fn shutdown_number(made: bool, up: bool) -> u8
     number::DONE
 }
 
+// Takes the end down, as when the transport is gone: its role stays, every slot is free, and every call but start answers 1. A refusal changes nothing.
 pub fn shutdown(e: End) -> Stopped
     ensures { λ r. ⌜ ShutdownPromise e r ⌝ }
 {

@@ -24,12 +24,19 @@ use table::end::End;
 use table::storage;
 use wire::header::Header;
 
+// What take answers. After a refusal or a fault used, kind and sid are 0.
 pub struct Taken {
+    // 0; a refusal: 12, 1, 9, 10; or a fault, 20 to 30.
     pub number: u8,
+    // How many bytes at the front of `bytes` were the packet: drop them.
     pub used: usize,
+    // The packet's FLAGS: 1 SYN, 2 ACK, 4 FIN, 8 DATA.
     pub kind: u8,
+    // The packet's SID: after DATA or FIN, read that session.
     pub sid: u16,
+    // Beside 10, how many more bytes are needed to go on; else 0.
     pub missing: usize,
+    // The end after the packet; as it was given after a refusal; down after a fault.
     pub end: End,
 }
 
@@ -139,6 +146,8 @@ fn keep(storage: &mut [u8], bytes: &[u8], a: Act, slot: usize, h: Header)
     }
 }
 
+// Handles one packet from the front of `bytes`, which came from the transport: a SYN at a server makes a session, the others move theirs, and DATA's
+// payload goes to its place in the storage. Other bytes of the storage and other slots stay. A refusal changes nothing; a fault takes the end down.
 pub fn take(e: End, bytes: &[u8], storage: &mut [u8]) -> Taken
     ensures { λ r. ⌜ TakePromise e (now (bytes .entry)) (now (storage .entry)) r (now (storage .exit)) ⌝ }
 {

@@ -170,6 +170,7 @@ pub fn is_role(chars: &[u8]) -> bool
     either(is(chars, b"client"), is(chars, b"server"))
 }
 
+// The role that the characters name; the client's where they name none.
 pub fn role(chars: &[u8]) -> Role
     ensures { λ r. ⌜ r ≡ roleOf (now (chars .entry)) ⌝ }
 {
