@@ -1,5 +1,5 @@
 // Standard input, a line at a time: each line is answered as soon as it was read.
-ghost use Rattle.words.specs.Held.{Front};
+ghost use Rattle.buffer.specs.Onto.{Front};
 use crate::command;
 use crate::world::Storage;
 use crate::world::World;

@@ -4,8 +4,9 @@ use native.Mathlib.Omega.{arith}
 use mathlib.Core.Path.{_≡_, refl, sym, ap, _∙_}
 use mathlib.Core.Bool.{Bool, true, false, not, _&&_}
 use mathlib.Core.List.{List, [], _∷_, _++_}
+use lib.ListN.{length}
 use lib.Dec.{eqb}
-use borrow.Author.Tests.{eq-eqb, ne-eqb, eqb-false, not-true}
+use borrow.Author.Tests.{eq-eqb, ne-eqb, eqb-true, eqb-false, not-true}
 use Rattle.cases.proofs.Tests.{and-split}
 use Rattle.cases.specs.Cases.{Case, _⇒_, if, first, done}
 
@@ -29,6 +30,15 @@ done-0 n a b p = rw (eq-eqb n 0 p)
 
 pub done-not : {A : Type 0} (n : ℕ) (a b : A) → 0 < n → done n a b ≡ b
 done-not n a b h = rw (ne-eqb n 0 (λ p. omega arith))
+
+-- a call that is done emits as many bytes as its answer says, and a refused call none
+pub done-length : {A : Type 0} (len : A → ℕ) (n : ℕ) (a b : A) (bytes : List ℕ) → (n ≡ 0 → length bytes ≡ len a) → len b ≡ 0
+    → length (done n bytes []) ≡ len (done n a b)
+done-length len n a b bytes p q = by (eqb n 0) refl
+  where
+    by : (t : Bool) → eqb n 0 ≡ t → length (if t bytes []) ≡ len (if t a b)
+    by true e = p (eqb-true n 0 e)
+    by false e = sym q
 
 -- ---- two lists in a row
 

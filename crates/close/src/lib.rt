@@ -1,5 +1,6 @@
 // Close: FIN goes out, and the session is FIN SENT or gone.
 ghost use mathlib.Core.Path.{_≡_};
+ghost use Rattle.buffer.specs.Onto.{Front};
 ghost use Rattle.close.specs.Close.{closeDone, closeRefused, ClosePromise};
 use cases::number;
 use decide::close_number;
@@ -46,6 +47,7 @@ impl Closed {
 // RECEIVED a free slot: what was unread is lost. Later bytes of `packet` and every other slot stay. A refusal changes nothing.
 pub fn close(e: End, sid: u16, packet: &mut [u8]) -> Closed
     ensures { λ r. ⌜ ClosePromise e sid (now (packet .entry)) r (now (packet .exit)) ⌝ }
+    ensures { λ r. ⌜ Front (r .length) (now (packet .exit)) ⌝ }
 {
     let l = scan(e, sid);
     let n = close_number(l, e.up, packet.len());

@@ -8,10 +8,9 @@ use mathlib.Core.List.{List, [], _∷_}
 use lib.ListN.{length, getD, drop, drop-of-length-le, length-append}
 use lib.Seq.{drop-cons, length-take-le}
 use borrow.Author.Tests.{eq-eqb, ne-eqb, le-leb, lt-leb}
-use Rattle.buffer.specs.Onto.{onto}
+use Rattle.buffer.specs.Onto.{onto, Front}
 use Rattle.text.specs.Hex.{isHex, fromHex}
 use Rattle.words.specs.Words.{roomLength}
-use Rattle.words.specs.Held.{Front}
 use Rattle.fields.specs.Rooms.{fill, bytesOf, isFilled}
 
 -- ---- filled, byte by byte

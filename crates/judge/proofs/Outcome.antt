@@ -87,6 +87,18 @@ accepted role held none x h given p =
       },
     )
 
+-- where take's number is 0, the whole packet is there
+pub zero-whole : (e : End) (bytes : List ℕ) (storage : ℕ) → takeNumber base e bytes storage ≡ 0 → readHeader bytes .length ≤ length bytes
+unfolding takeNumber numbered
+zero-whole e bytes storage z =
+    let h = readHeader bytes in
+    let held = holds (h .sid) (e .slots) in
+    let none = full (e .slots) in
+    let x = sessionOf (h .sid) (e .slots) in
+    let gate = takeCases (wellMade base e) (e .up) (shortStorage base e storage) (length bytes) in
+    let rest = packetCases base (e .role) held none x h (length bytes) in
+    accepted (e .role) held none x h (length bytes) (done-clear (first gate) (first rest) (sym (first-append gate rest refl) ∙ z) .1) .1 .there
+
 -- for all kinds but SYN there is a session
 pub is-held : (k : Kind) (role : Role) (held none : Bool) (x : Session) (h : Header) → (k ≡ Syn → ⊥) → first (kindCases base (One k) role held none x h) ≡ 0
     → held ≡ true

@@ -1,5 +1,6 @@
 // Open: a client's new session, and its SYN.
 ghost use mathlib.Core.Path.{_≡_};
+ghost use Rattle.buffer.specs.Onto.{Front};
 ghost use Rattle.open.specs.Open.{openDone, openRefused, OpenPromise};
 use cases::number;
 use decide::open_number;
@@ -51,6 +52,7 @@ impl Opened {
 // later bytes of `packet` and every other slot stay. A refusal changes nothing.
 pub fn open(e: End, packet: &mut [u8]) -> Opened
     ensures { λ r. ⌜ OpenPromise e (now (packet .entry)) r (now (packet .exit)) ⌝ }
+    ensures { λ r. ⌜ Front (r .length) (now (packet .exit)) ⌝ }
 {
     let l = scan(e, 0);
     let role = e.role;

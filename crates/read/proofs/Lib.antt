@@ -1,2 +1,3 @@
 pub mod ReadZero
 pub mod Reading
+pub mod Emitted

@@ -4,7 +4,7 @@ ghost use mathlib.Core.Bool.{false, _&&_};
 ghost use Prim.Native.Nat.{_≤_, _<_};
 ghost use lib.ListN.{length, take, drop};
 ghost use lib.Dec.{ltb};
-ghost use Rattle.buffer.specs.Onto.{onto};
+ghost use Rattle.buffer.specs.Onto.{onto, Front};
 ghost use Rattle.wire.specs.Packet.{headerLength};
 ghost use Rattle.session.specs.Record.{payloadLimit, established};
 ghost use Rattle.table.specs.End.{slotCount};
@@ -86,6 +86,7 @@ fn hand_over(payload: &mut [u8], storage: &[u8], slot: usize, seqnum: u32, n: us
 // an ACK goes to the front of `ack`, for the transport. The storage, later bytes of both buffers and every other slot stay. A refusal changes nothing.
 pub fn read(e: End, sid: u16, storage: &[u8], payload: &mut [u8], ack: &mut [u8]) -> Got
     ensures { λ r. ⌜ ReadPromise e sid (now (storage .entry)) (now (payload .entry)) (now (ack .entry)) r (now (payload .exit)) (now (ack .exit)) ⌝ }
+    ensures { λ r. ⌜ Front (r .«payload_length») (now (payload .exit)) × Front (r .«ack_length») (now (ack .exit)) ⌝ }
 {
     let l = scan(e, sid);
     let n = read_number(

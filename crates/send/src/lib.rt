@@ -1,5 +1,6 @@
 // Send: a payload goes out as a DATA packet.
 ghost use mathlib.Core.Path.{_≡_};
+ghost use Rattle.buffer.specs.Onto.{Front};
 ghost use Rattle.send.specs.Send.{sendDone, sendRefused, SendPromise};
 use cases::number;
 use decide::data_header;
@@ -46,6 +47,7 @@ impl Sent {
 // `packet` and every other slot stay. A refusal changes nothing: after 7 (the window is closed) try again when the peer's ACK was taken.
 pub fn send(e: End, sid: u16, payload: &[u8], packet: &mut [u8]) -> Sent
     ensures { λ r. ⌜ SendPromise e sid (now (payload .entry)) (now (packet .entry)) r (now (packet .exit)) ⌝ }
+    ensures { λ r. ⌜ Front (r .length) (now (packet .exit)) ⌝ }
 {
     let l = scan(e, sid);
     let n = send_number(l, e.up, payload.len(), packet.len());

@@ -1,3 +1,4 @@
 pub mod SynKeeps
 pub mod Taking
 pub mod Answered
+pub mod Used

@@ -150,6 +150,7 @@ fn keep(storage: &mut [u8], bytes: &[u8], a: Act, slot: usize, h: Header)
 // payload goes to its place in the storage. Other bytes of the storage and other slots stay. A refusal changes nothing; a fault takes the end down.
 pub fn take(e: End, bytes: &[u8], storage: &mut [u8]) -> Taken
     ensures { λ r. ⌜ TakePromise e (now (bytes .entry)) (now (storage .entry)) r (now (storage .exit)) ⌝ }
+    ensures { λ r. ⌜ r .used ≤ length (now (bytes .entry)) ⌝ }
 {
     let h = front(bytes);
     let l = scan(e, h.sid);

@@ -1,15 +1,10 @@
 -- The characters of a line that came so far, in an array of the longest line.
-use Prim.Native.Nat.{ℕ, _≤_, _+_}
-use mathlib.Core.Path.{_≡_}
+use Prim.Native.Nat.{ℕ, _+_}
 use mathlib.Core.List.{List}
-use lib.ListN.{length, take}
+use lib.ListN.{length}
 use lib.Seq.{paste}
 use lib.Dec.{leb, ltb}
 use Rattle.cases.specs.Cases.{if}
-
--- n counts bytes at the front of a list. The second part follows from the first; the proof that Rattle makes of `&s[..n]` asks for both
-abbrev pub Front : ℕ → List ℕ → Type 0
-Front n xs = (n ≤ length xs) × (n ≡ length (take n xs))
 
 abbrev pub longestLine : ℕ
 longestLine = 16384

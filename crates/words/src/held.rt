@@ -1,7 +1,8 @@
 // The line that isn't ended yet: the characters of it that came so far.
 ghost use mathlib.Core.Path.{_≡_};
 ghost use lib.ListN.{length};
-ghost use Rattle.words.specs.Held.{Front, heldWith, lineWith, countOf};
+ghost use Rattle.buffer.specs.Onto.{Front};
+ghost use Rattle.words.specs.Held.{heldWith, lineWith, countOf};
 
 pub const LONGEST: usize = 16384;
 

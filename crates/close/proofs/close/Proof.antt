@@ -1,4 +1,5 @@
 -- What was seen and found, handed to the law for a refusal, or for a close that is done.
+use Rattle.close.proofs.Emitted.{close-counts}
 use Rattle.close.proofs.Closing.{close-refused, close-room, close-done}
 use borrow.Author.Needs.{needs}
 use Rattle.close.proofs.close.Statement.{statement}
@@ -16,8 +17,10 @@ refused-requires c κs = search needs
 returns : tie.Need-returns
 returns c =
     let a = c .before .before .before .before .before .args in
+    let p =
     close-refused (a .e) (a .sid) (a .packet .now) (c .before .before .before .scan .ensures) (c .before .before .close-number .ensures) (c .refused .ensures)
-    (c .before .if1 .taken)
+    (c .before .if1 .taken) in
+    (p, close-counts p)
 
 fin-header-requires : tie.Need-fin-header-requires
 fin-header-requires c κs = search needs
@@ -43,11 +46,13 @@ same-length c = search needs
 returns-2 : tie.Need-returns-2
 returns-2 c =
     let a = c .before .before .before .before .before .before .before .before .before .before .before .before .before .args in
+    let p =
     close-done (a .e) (a .sid) (a .packet .now) (c .before .before .before .before .before .before .before .before .before .before .before .scan .ensures)
     (c .before .before .before .before .before .before .before .before .before .before .close-number .ensures)
     (c .before .before .before .before .before .before .before .before .before .if1 .left)
     (c .before .before .before .before .before .before .fin-header .ensures) (c .before .before .closed .ensures) (c .before .put .ensures)
-    (c .done .ensures) (c .before .before .before .before .before .header .ensures)
+    (c .done .ensures) (c .before .before .before .before .before .header .ensures) in
+    (p, close-counts p)
 
 pub close-spec : {M : Type 1} → statement M
 close-spec =

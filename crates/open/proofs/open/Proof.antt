@@ -2,6 +2,7 @@
 use mathlib.Core.Path.{_≡_}
 use lib.ListN.{length}
 use Rattle.table.proofs.Slots.{long}
+use Rattle.open.proofs.Emitted.{open-counts}
 use Rattle.open.proofs.Opening.{open-refused, open-room, open-done}
 use borrow.Author.Needs.{needs}
 use Rattle.open.proofs.open.Statement.{statement}
@@ -21,8 +22,10 @@ returns c =
     let a = c .before .before .before .before .before .before .args in
     let good = c .before .before .before .before .before .before .good in
     let w : 16 ≡ length (a .e .slots) = search (needs, long) in
+    let p =
     open-refused (a .e) (a .packet .now) w (c .before .before .before .before .scan .ensures) (c .before .before .open-number .ensures) (c .refused .ensures)
-    (c .before .if1 .taken)
+    (c .before .if1 .taken) in
+    (p, open-counts p)
 
 smallest-sid-requires : tie.Need-smallest-sid-requires
 smallest-sid-requires c κs = search needs
@@ -55,12 +58,14 @@ returns-2 c =
     let a = c .before .before .before .before .before .before .before .before .before .before .before .before .before .before .args in
     let good = c .before .before .before .before .before .before .before .before .before .before .before .before .before .before .good in
     let w : 16 ≡ length (a .e .slots) = search (needs, long) in
+    let p =
     open-done (a .e) (a .packet .now) w (c .before .before .before .before .before .before .before .before .before .before .before .before .scan .ensures)
     (c .before .before .before .before .before .before .before .before .before .before .open-number .ensures)
     (c .before .before .before .before .before .before .before .before .before .if1 .left)
     (c .before .before .before .before .before .before .before .before .smallest-sid .ensures)
     (c .before .before .before .before .before .before .syn-header .ensures) (c .before .before .fresh .ensures) (c .before .put .ensures)
-    (c .done .ensures) (c .before .before .before .before .before .header .ensures)
+    (c .done .ensures) (c .before .before .before .before .before .header .ensures) in
+    (p, open-counts p)
 
 pub open-spec : {M : Type 1} → statement M
 open-spec =

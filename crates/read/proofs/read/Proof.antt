@@ -3,6 +3,7 @@ use native.Mathlib.Omega.{arith}
 use mathlib.Core.Path.{_≡_}
 use lib.ListN.{length}
 use Rattle.table.proofs.Slots.{long}
+use Rattle.read.proofs.Emitted.{read-counts}
 use Rattle.read.proofs.Reading.{read-refused, read-fits, read-done}
 use borrow.Author.Needs.{needs}
 use Rattle.read.proofs.read.Statement.{statement}
@@ -22,8 +23,10 @@ returns c =
     let a = c .before .before .before .before .before .before .before .args in
     let good = c .before .before .before .before .before .before .before .good in
     let w : 16 ≡ length (a .e .slots) = search (needs, long) in
+    let p =
     read-refused (a .e) (a .sid) (a .storage .now) (a .payload .now) (a .ack .now) w (c .before .before .before .scan .ensures)
-    (c .before .before .read-number .ensures) (c .refused .ensures) (c .before .if1 .taken)
+    (c .before .before .read-number .ensures) (c .refused .ensures) (c .before .if1 .taken) in
+    (p, read-counts p)
 
 oldest-length-requires : tie.Need-oldest-length-requires
 oldest-length-requires c κs = search needs
@@ -78,6 +81,7 @@ returns-2 c =
     let good = c .before .before .before .before .before .before .before .before .before .before
     .before .before .before .before .before .before .before .before .before .before .good in
     let w : 16 ≡ length (a .e .slots) = search (needs, long) in
+    let p =
     read-done (a .e) (a .sid) (a .storage .now) (a .payload .now) (a .ack .now) w
     (c .before .before .before .before .before .before .before .before .before .before .before .before .before .before .before .before .scan .ensures)
     (c .before .before .before .before .before .before .before .before .before .before .before .before .before .before .before .read-number .ensures)
@@ -87,7 +91,8 @@ returns-2 c =
     (c .before .before .before .before .before .before .before .before .hand-over .ensures) (c .before .before .before .before .write-ack .ensures .0)
     (c .before .before .before .before .write-ack .ensures .1)
     (c .before .before .before .before .before .before .before .before .before .before .before .before .read .ensures) (c .before .put .ensures)
-    (c .done .ensures)
+    (c .done .ensures) in
+    (p, read-counts p)
 
 pub read-spec : {M : Type 1} → statement M
 read-spec =

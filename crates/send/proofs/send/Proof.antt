@@ -1,4 +1,5 @@
 -- What was seen and found, handed to the law for a refusal, or for a send that is done.
+use Rattle.send.proofs.Emitted.{send-counts}
 use Rattle.send.proofs.Sending.{send-refused, send-limit, send-room, send-done}
 use borrow.Author.Needs.{needs}
 use Rattle.send.proofs.send.Statement.{statement}
@@ -16,8 +17,10 @@ refused-requires c κs = search needs
 returns : tie.Need-returns
 returns c =
     let a = c .before .before .before .before .before .before .args in
+    let p =
     send-refused (a .e) (a .sid) (a .payload .now) (a .packet .now) (c .before .before .before .scan .ensures) (c .before .before .send-number .ensures)
-    (c .refused .ensures) (c .before .if1 .taken)
+    (c .refused .ensures) (c .before .if1 .taken) in
+    (p, send-counts p)
 
 data-header-requires : tie.Need-data-header-requires
 data-header-requires c κs =
@@ -49,12 +52,14 @@ same-length c = search needs
 returns-2 : tie.Need-returns-2
 returns-2 c =
     let a = c .before .before .before .before .before .before .before .before .before .before .before .before .before .before .args in
+    let p =
     send-done (a .e) (a .sid) (a .payload .now) (a .packet .now)
     (c .before .before .before .before .before .before .before .before .before .before .before .scan .ensures)
     (c .before .before .before .before .before .before .before .before .before .before .send-number .ensures)
     (c .before .before .before .before .before .before .before .before .before .if1 .left) (c .before .before .before .before .before .data-header .ensures)
     (c .before .before .before .before .before .before .before .sent .ensures) (c .before .put .ensures) (c .done .ensures)
-    (c .before .before .before .before .packet .ensures)
+    (c .before .before .before .before .packet .ensures) in
+    (p, send-counts p)
 
 pub send-spec : {M : Type 1} → statement M
 send-spec =

@@ -4,6 +4,7 @@ use lib.ListN.{length}
 use Rattle.table.proofs.Slots.{long}
 use Rattle.take.proofs.Taking.{take-stores, take-bounded, take-done}
 use borrow.Author.Needs.{needs}
+use Rattle.take.proofs.Used.{used-counts}
 use Rattle.take.proofs.take.Statement.{statement}
 use Rattle.take.proofs.take.Tie as tie
 
@@ -45,10 +46,12 @@ returns c =
     let good = c .before .before .before .before .before .before .before .before .before .before .before .before .before .good in
     let a = c .before .before .before .before .before .before .before .before .before .before .before .before .before .args in
     let w : 16 ≡ length (a .e .slots) = search (needs, long) in
+    let p =
     take-done (a .e) (a .bytes .now) (a .storage .now) w (c .before .before .before .before .before .before .before .before .before .before .front .ensures)
     (c .before .before .before .before .before .before .before .before .before .scan .ensures)
     (c .before .before .before .before .before .before .before .act-of .ensures) (c .before .before .before .before .keep .ensures) (c .before .of .ensures)
-    (c .before .before .before .before .before .before .change .ensures) (c .after .ensures)
+    (c .before .before .before .before .before .before .change .ensures) (c .after .ensures) in
+    (p, used-counts p)
 
 pub take-spec : {M : Type 1} → statement M
 take-spec =

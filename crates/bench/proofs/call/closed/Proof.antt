@@ -16,7 +16,7 @@ same-length c = search needs
 
 returns : tie.Need-returns
 returns c = let x = c .before .before .before .before .close in
-    (c .of .ensures ∙ ap closeAnswer (x .ensures .answer), x .ensures .packet)
+    (c .of .ensures ∙ ap closeAnswer (x .ensures .0 .answer), x .ensures .0 .packet)
 
 pub closed-spec : {M : Type 1} → statement M
 closed-spec = tie.close (tie.spec close-requires of-requires same-length returns)

@@ -19,7 +19,7 @@ same-length c = search needs
 
 returns : tie.Need-returns
 returns c = let o = c .before .before .before .before .before .«open» in
-    (c .of .ensures ∙ ap openAnswer (o .ensures .answer), o .ensures .packet)
+    (c .of .ensures ∙ ap openAnswer (o .ensures .0 .answer), o .ensures .0 .packet)
 
 pub opened-spec : {M : Type 1} → statement M
 opened-spec = tie.close (tie.spec open-requires cast-t7 of-requires same-length returns)

@@ -46,7 +46,7 @@ loop-again c = let a = c .before .before .before .before .before .before .before
     let q = c .before .tally in
     let g = sendingOf (answerOf (l .number) (l .values) (l .sum) (l .e)) (l .sid) (l .packet) in
     let turn = send-turn (a .payload .now) (a .last) (a .step) g (x .result) (x .last .1 .1 .1 .0)
-    (p .result) (q .result) (x .ensures) (p .ensures) (q .ensures) in
+    (p .result) (q .result) (x .ensures .0) (p .ensures) (q .ensures) in
     let here = c .before .before .before .before .before .before .before .loop-test .taken in
     let rest = times-on f (l .n) (a .count) g _ here turn (l .inv .1 .1) in
     (omega arith, (search needs, rest))

@@ -60,7 +60,7 @@ loop-again c = let a = c .before .before .before .before .before .before .before
     let p = c .before .before .before .before .past in
     let q = c .before .before .before .tally in
     let g = takingOf (answerOf (l .number) (l .values) (l .sum) (l .e)) (l .at) (l .storage) in
-    let turn = take-turn (a .bytes .now) g (x .result) (x .last .1 .1 .0) (p .result) (q .result) (x .ensures) refl (p .ensures) (q .ensures) in
+    let turn = take-turn (a .bytes .now) g (x .result) (x .last .1 .1 .0) (p .result) (q .result) (x .ensures .0) refl (p .ensures) (q .ensures) in
     let here = c .before .before .before .before .before .before .before .before .before .before .loop-test .taken in
     let rest = times-on f (l .n) (a .count) g _ here turn (l .inv .1 .1 .1) in
     let inside = p .ensures in

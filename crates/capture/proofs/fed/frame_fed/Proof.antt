@@ -23,9 +23,9 @@ returns c = let a = c .before .before .before .before .before .before .args in
     let f = a .frame .now in
     let t = c .before .before .before .take in
     let l : length (a .storage .now) ≡ 32768 = search needs in
-    let p : t .result ≡ taken (a .e) f = t .ensures .answer ∙ ap (takeOf base (a .e) f) l in
+    let p : t .result ≡ taken (a .e) f = t .ensures .0 .answer ∙ ap (takeOf base (a .e) f) l in
     let tells = told (a .e) f (t .result) (c .before .unread-for .result) (c .of .result) p (c .before .unread-for .ensures) (c .of .ensures) in
-    (tells, t .ensures .storage)
+    (tells, t .ensures .0 .storage)
 
 pub frame-fed-spec : {M : Type 1} → statement M
 frame-fed-spec = tie.close (tie.spec take-requires unread-for-requires of-requires returns)
