@@ -5,7 +5,8 @@ ghost use Rattle.calling.specs.Calling.{seenCases};
 use cases::number;
 use scan::Look;
 
-// 12, 1, 4, for what was seen of an end and whether it is up.
+// The refusals that send, read and close begin with, of what was seen of an end and whether it is up: 12 where it isn't well made, 1 where it is
+// down, 4 where no slot holds the SID; else 0.
 pub fn called_number(l: Look, up: bool) -> u8
     ensures { λ r. ⌜ r ≡ first (seenCases l up) ⌝ }
 {

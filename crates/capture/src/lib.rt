@@ -51,7 +51,8 @@ fn counted(n: usize) -> usize
     if n < INPUT { n } else { INPUT }
 }
 
-// The whole report, at the front of the buffer. Later bytes are untouched.
+// Feeds a capture, at most its first 65,536 bytes, to a fresh server line by line, and puts the report at the front of the buffer. The answer is
+// the report's length; later bytes are untouched.
 pub fn feed(input: &[u8], out: &mut [u8; REPORT]) -> usize
     ensures { λ _. ⌜ now (out .exit) ≡ onto (feedText (now (input .entry))) (now (out .entry)) ⌝ }
     ensures { λ r. ⌜ r ≡ length (feedText (now (input .entry))) ⌝ }

@@ -5,14 +5,14 @@ ghost use Rattle.cases.specs.Cases.{done};
 
 pub mod number;
 
-// Both tests hold. Both were made before.
+// Whether both tests hold. Both were made before the call, so that no branch is taken here.
 pub fn both(a: bool, b: bool) -> bool
     ensures { λ r. ⌜ r ≡ a && b ⌝ }
 {
     a && b
 }
 
-// One of the tests holds. Both were made before.
+// Whether one of the tests holds, or both. Both were made before the call.
 pub fn either(a: bool, b: bool) -> bool
     ensures { λ r. ⌜ r ≡ a || b ⌝ }
 {

@@ -26,7 +26,7 @@ fn session_number(x: Session, room: usize) -> u8
     number::DONE
 }
 
-// 12, 1, 4, then those.
+// Close's number, of what was seen of the end, whether it is up, and the room in the packet buffer: 12, 1, 4, then the session's; 0 if it is done.
 pub fn close_number(l: Look, up: bool, room: usize) -> u8
     ensures { λ r. ⌜ r ≡ first (seenCases l up ++ closeCases (l .session) room) ⌝ }
 {
@@ -34,7 +34,7 @@ pub fn close_number(l: Look, up: bool, room: usize) -> u8
     first_of(called_number(l, up), session_number(x, room))
 }
 
-// FIN, SEQNUM S, WNDW G.
+// The header of the FIN that a session emits: its SID, LENGTH 16, SEQNUM S, WNDW G.
 pub fn fin_header(x: Session) -> Header
     ensures { λ r. ⌜ r ≡ finHeader x ⌝ }
 {

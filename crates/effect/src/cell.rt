@@ -44,7 +44,7 @@ fn ended(x: Session, wndw: u32) -> Session
     x.granted(wndw).with_state(State::FinReceived)
 }
 
-// What a cell makes of the record, for a packet with that SEQNUM, WNDW and payload length.
+// What a cell of the table makes of the record x, for a packet with that SEQNUM, WNDW and payload length. The payload itself is stored by take.
 pub fn becomes(x: Session, c: Cell, seqnum: u32, wndw: u32, n: u16) -> Session
     ensures { λ r. ⌜ r ≡ becomes c seqnum wndw n x ⌝ }
 {

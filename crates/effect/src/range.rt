@@ -6,7 +6,7 @@ use session::counter;
 use session::record::Session;
 use wire::kind::Kind;
 
-// H - S <= WNDW - S <= most.
+// Whether a packet's WNDW is in range for the record: H - S <= WNDW - S <= most, so that the window never shrinks and never passes the highest.
 pub fn window_in_range(x: Session, most: u32, wndw: u32) -> bool
     ensures { λ r. ⌜ r ≡ windowInRange most x wndw ⌝ }
 {
@@ -26,7 +26,8 @@ fn is_data(k: Kind) -> bool
     }
 }
 
-// DATA in ESTABLISHED is the next packet, and there is room for it; all else lies in the window.
+// Whether a packet's SEQNUM is in range for the record: DATA in ESTABLISHED is the next packet, R + 1, and there is room for it; all else lies in the
+// window, SEQNUM - R <= G - R.
 pub fn seqnum_in_range(x: Session, k: Kind, seqnum: u32) -> bool
     ensures { λ r. ⌜ r ≡ seqnumInRange x k seqnum ⌝ }
 {

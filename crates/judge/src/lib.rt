@@ -35,7 +35,7 @@ pub fn front(bytes: &[u8]) -> Header
     Header::read(bytes)
 }
 
-// How many bytes more are needed.
+// How many bytes more are needed than were given: of sixteen where the header isn't whole, else of the packet's LENGTH.
 pub fn missing(h: Header, given: usize) -> usize
     ensures { λ r. ⌜ r ≡ missingOf h given ⌝ }
 {

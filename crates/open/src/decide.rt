@@ -17,7 +17,7 @@ fn is_server(role: Role) -> bool
     }
 }
 
-// 12, 1, 2, 3, 9.
+// Open's number: 12 not well made, 1 down, 2 at a server, 3 no free slot, 9 a room under 16; 0 if it is done.
 pub fn open_number(made: bool, up: bool, role: Role, none: bool, room: usize) -> u8
     ensures { λ r. ⌜ r ≡ first (openCases made up role none room) ⌝ }
 {
@@ -39,7 +39,7 @@ pub fn open_number(made: bool, up: bool, role: Role, none: bool, room: usize) ->
     number::DONE
 }
 
-// SYN, SEQNUM 0, WNDW 4.
+// The header of the SYN of a new session: its SID, LENGTH 16, SEQNUM 0, WNDW 4.
 pub fn syn_header(sid: u16) -> Header
     ensures { λ r. ⌜ r ≡ synHeader sid ⌝ }
 {

@@ -15,7 +15,7 @@ use session::record::Session;
 use wire::header::Header;
 use wire::kind::Kind;
 
-// The length of the oldest unread payload.
+// The length of the oldest unread payload, which stands in the record at the place of SEQNUM G - 3.
 pub fn oldest_length(x: Session) -> usize
     ensures { λ r. ⌜ r ≡ oldestLength x ⌝ }
 {
@@ -44,7 +44,8 @@ fn session_number(x: Session, room: usize, ack: usize, short: bool) -> u8
     number::DONE
 }
 
-// 12, 1, 4, then those.
+// Read's number, of what was seen of the end, whether it is up, the rooms, and whether the storage is too short: 12, 1, 4, then the session's; 0 if
+// it is done.
 pub fn read_number(l: Look, up: bool, room: usize, ack: usize, short: bool) -> u8
     ensures { λ r. ⌜ r ≡ first (seenCases l up ++ readCases (l .session) room ack short) ⌝ }
 {
@@ -52,7 +53,7 @@ pub fn read_number(l: Look, up: bool, room: usize, ack: usize, short: bool) -> u
     first_of(called_number(l, up), session_number(x, room, ack, short))
 }
 
-// ACK, SEQNUM S, WNDW the new G.
+// The header of the ACK that a read emits: the SID, LENGTH 16, SEQNUM S, WNDW the new G.
 pub fn ack_header(x: Session) -> Header
     ensures { λ r. ⌜ r ≡ ackHeader x ⌝ }
 {

@@ -18,7 +18,7 @@ pub struct Line {
 }
 
 impl Line {
-    // Of a line of the input that is no frame.
+    // What is told of a line of the input that is no frame: `bad`.
     pub fn bad() -> Line
         ensures { λ r. ⌜ r ≡ badLine ⌝ }
     {
@@ -30,7 +30,7 @@ impl Line {
         }
     }
 
-    // Of a frame.
+    // What is told of a frame: take's answer, the frame's SID (dashes where it has no header), the unread packets.
     pub fn of(answer: u8, frame: &[u8], unread: u32) -> Line
         ensures { λ r. ⌜ r ≡ lineOf answer (now (frame .entry)) unread ⌝ }
     {
@@ -65,7 +65,7 @@ fn told_row(out: &mut [u8], at: usize, n: u32, l: Line) -> usize
     word::of_session(out, b, sid, l.unread)
 }
 
-// Any line but the last.
+// Writes line n of the report into a buffer from a place on, and answers the place behind it. No other byte changes.
 pub fn line_row(out: &mut [u8], at: usize, n: u32, l: Line) -> usize
     requires { ⌜ (n ≤ lineLimit) × (at + rowLimit ≤ length (now out)) ⌝ }
     ensures { λ r. ⌜ Wrote (now (out .entry)) at (lineRow n l) (now (out .exit)) r ⌝ }
@@ -77,7 +77,7 @@ pub fn line_row(out: &mut [u8], at: usize, n: u32, l: Line) -> usize
     told_row(out, at, n, l)
 }
 
-// The last line: the end is up or down, and so many sessions are held.
+// Writes the report's last line in the same way: the end is up or down, and so many sessions are held.
 pub fn last_row(out: &mut [u8], at: usize, up: bool, held: u32) -> usize
     requires { ⌜ at + lastLimit ≤ length (now out) ⌝ }
     ensures { λ r. ⌜ Wrote (now (out .entry)) at (endRow up held) (now (out .exit)) r ⌝ }

@@ -53,7 +53,8 @@ fn sids_differ(e: End) -> bool
     true
 }
 
-// SIDs are marked by their rest modulo 64. Where no mark is met twice they differ, and no slot is held against another.
+// One look through the slots: whether the end is well made, and then the slot and record of the session with that SID and the lowest free slot. SIDs
+// are marked by their rest modulo 64: where no mark is met twice they differ, and no slot is held against another.
 pub fn scan(e: End, sid: u16) -> Look
     ensures { λ r. ⌜ r ≡ lookOf base e sid ⌝ }
 {

@@ -36,7 +36,8 @@ fn session_number(x: Session, n: usize, room: usize) -> u8
     number::DONE
 }
 
-// 12, 1, 4, then those.
+// Send's number, of what was seen of the end, whether it is up, the payload's length n and the room in the packet buffer: 12, 1, 4, then the
+// session's; 0 if it is done.
 pub fn send_number(l: Look, up: bool, n: usize, room: usize) -> u8
     ensures { λ r. ⌜ r ≡ first (seenCases l up ++ sendCases base (l .session) n room) ⌝ }
 {
@@ -44,7 +45,7 @@ pub fn send_number(l: Look, up: bool, n: usize, room: usize) -> u8
     first_of(called_number(l, up), session_number(x, n, room))
 }
 
-// DATA with SEQNUM S + 1, WNDW G.
+// The header of the DATA that a session emits for n bytes: its SID, LENGTH 16 + n, SEQNUM S + 1, WNDW G.
 pub fn data_header(x: Session, n: usize) -> Header
     requires { ⌜ n ≤ payloadLimit ⌝ }
     ensures { λ r. ⌜ r ≡ dataHeader x n ⌝ }

@@ -6,7 +6,7 @@ use crate::record::Session;
 use crate::record::State;
 
 impl Session {
-    // S grows by 1.
+    // The record after a send: S grows by 1, modulo 2^32, and all else stays.
     pub fn sent(self) -> Session
         ensures { λ r. ⌜ r ≡ sentOn self ⌝ }
     {
@@ -15,7 +15,7 @@ impl Session {
         x
     }
 
-    // G grows by 1.
+    // The record after a read: G grows by 1, modulo 2^32, and all else stays, lengths too.
     pub fn read(self) -> Session
         ensures { λ r. ⌜ r ≡ readOn self ⌝ }
     {
@@ -24,7 +24,7 @@ impl Session {
         x
     }
 
-    // To FIN SENT, or the slot becomes free.
+    // The record after a close: from ESTABLISHED to FIN SENT with counters and lengths kept, from FIN RECEIVED a free slot; else as it was.
     pub fn closed(self) -> Session
         ensures { λ r. ⌜ r ≡ closedOn self ⌝ }
     {
@@ -37,7 +37,7 @@ impl Session {
         }
     }
 
-    // R becomes SEQNUM, H becomes WNDW, and n stands at the packet's place.
+    // The record after DATA: R becomes SEQNUM, H becomes WNDW, and the payload's length n stands at the place of SEQNUM; all else stays.
     pub fn stored(self, seqnum: u32, wndw: u32, n: u16) -> Session
         ensures { λ r. ⌜ r ≡ storedOn seqnum wndw n self ⌝ }
     {
@@ -49,7 +49,7 @@ impl Session {
         x
     }
 
-    // H becomes WNDW.
+    // The record after an ACK: H becomes WNDW, and all else stays.
     pub fn granted(self, wndw: u32) -> Session
         ensures { λ r. ⌜ r ≡ grantedOn wndw self ⌝ }
     {

@@ -22,7 +22,7 @@ impl Stopped {
     }
 }
 
-// 12, 1.
+// Shutdown's number: 12 not well made, 1 down already; 0 if it is done.
 pub fn shutdown_number(made: bool, up: bool) -> u8
     ensures { λ r. ⌜ r ≡ first (shutdownCases made up) ⌝ }
 {

@@ -22,7 +22,7 @@ pub fn value(c: u8) -> u8
     16
 }
 
-// The character of a digit below 16.
+// The lower-case hexadecimal character of a digit below 16.
 pub fn glyph(d: u8) -> u8
     requires { ⌜ d < 16 ⌝ }
     ensures { λ r. ⌜ r ≡ glyph d ⌝ }

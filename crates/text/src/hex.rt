@@ -7,7 +7,7 @@ ghost use Rattle.buffer.specs.Onto.{onto};
 ghost use Rattle.text.specs.Hex.{hexByte, isHex, fromHex, toHex};
 use crate::digit;
 
-// An even count of characters, each a digit.
+// Whether the text is lower-case hexadecimal: an even count of characters, each a digit. An empty text is.
 pub fn is_hex(text: &[u8]) -> bool
     ensures { λ r. ⌜ r ≡ isHex (now (text .entry)) ⌝ }
 {
@@ -33,7 +33,7 @@ fn byte_of(high: u8, low: u8) -> u8
     ((h * 16 + l) % 256) as u8
 }
 
-// The bytes of a text, at the front of a buffer that holds them.
+// Puts the bytes that a hexadecimal text spells at the front of a buffer that has room for them, and answers how many. Later bytes stay.
 pub fn decode(text: &[u8], out: &mut [u8]) -> usize
     requires { ⌜ length (now text) ≤ 2 * length (now out) ⌝ }
     ensures { λ _. ⌜ now (out .exit) ≡ onto (fromHex (now (text .entry))) (now (out .entry)) ⌝ }
