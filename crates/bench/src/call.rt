@@ -87,7 +87,8 @@ fn five(number: u8, v: [u64; 4]) -> [u64; 5]
     [number as u64, v[0], v[1], v[2], v[3]]
 }
 
-// The words become those of the record that comes back, and the sum is that of all calls.
+// Makes the call that a number names on the end that some words hold: start 0, open 1, send 2, read 3, close 4, shutdown 5, else take; send, read
+// and take count times. The words become those of the record that comes back, `values` the last answer's; the answer is the sum over all calls.
 #[no_mangle]
 pub extern "C" fn bench_call(
     call: u32,

@@ -4,7 +4,7 @@ ghost use Prim.Native.Nat.{_+_, _≤_};
 ghost use lib.ListN.{length};
 ghost use lib.Seq.{paste};
 
-// All of src goes into dst from an offset on, and no other byte changes.
+// Copies all of src into dst from index `at` on, which must have room for it. No other byte of dst changes.
 pub fn copy_in(dst: &mut [u8], at: usize, src: &[u8])
     requires { ⌜ at + length (now src) ≤ length (now dst) ⌝ }
     ensures { λ _. ⌜ now (dst .exit) ≡ paste (now (dst .entry)) at (now (src .entry)) (length (now (src .entry))) ⌝ }

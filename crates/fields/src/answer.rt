@@ -11,7 +11,7 @@ pub const LONGEST: usize = 32832;
 
 pub type Buffer = [u8; LONGEST];
 
-// Some characters.
+// Puts some characters into the answer line from a place on, and answers the place behind them; nothing goes past the buffer's end.
 pub fn put(out: &mut Buffer, at: usize, chars: &[u8]) -> usize
     requires { ⌜ at ≤ longest ⌝ }
     ensures { λ r. ⌜ Behind at r ⌝ }
@@ -23,7 +23,7 @@ pub fn put(out: &mut Buffer, at: usize, chars: &[u8]) -> usize
     at + chars.len()
 }
 
-// One character.
+// Puts one character there, in the same way.
 pub fn byte(out: &mut Buffer, at: usize, c: u8) -> usize
     requires { ⌜ at ≤ longest ⌝ }
     ensures { λ r. ⌜ Behind at r ⌝ }
@@ -68,7 +68,7 @@ fn space(out: &mut Buffer, at: usize) -> usize
     byte(out, at, b' ')
 }
 
-// A field: a word.
+// Puts a space and a word there: a field of the answer.
 pub fn word(out: &mut Buffer, at: usize, chars: &[u8]) -> usize
     requires { ⌜ at ≤ longest ⌝ }
     ensures { λ r. ⌜ Behind at r ⌝ }
@@ -77,7 +77,7 @@ pub fn word(out: &mut Buffer, at: usize, chars: &[u8]) -> usize
     put(out, k, chars)
 }
 
-// A field: a number.
+// Puts a space and a number there, in the fewest decimal digits.
 pub fn number(out: &mut Buffer, at: usize, n: u32) -> usize
     requires { ⌜ at ≤ longest ⌝ }
     ensures { λ r. ⌜ Behind at r ⌝ }
@@ -86,7 +86,7 @@ pub fn number(out: &mut Buffer, at: usize, n: u32) -> usize
     digits(out, k, n)
 }
 
-// Numbers, each behind the same mark.
+// Puts numbers there, each behind the same mark.
 pub fn each(out: &mut Buffer, from: usize, mark: u8, numbers: &[u32]) -> usize
     requires { ⌜ from ≤ longest ⌝ }
     ensures { λ r. ⌜ Behind from r ⌝ }
@@ -101,7 +101,7 @@ pub fn each(out: &mut Buffer, from: usize, mark: u8, numbers: &[u32]) -> usize
     at
 }
 
-// A field: bytes, `-` for none.
+// Puts a space and bytes there, as lower-case hexadecimal, or `-` for none.
 pub fn bytes(out: &mut Buffer, at: usize, b: &[u8]) -> usize
     requires { ⌜ at ≤ longest ⌝ }
     ensures { λ r. ⌜ Behind at r ⌝ }

@@ -10,14 +10,14 @@ use text::line::LF;
 use words::forms::Form;
 use words::limits;
 
-// NUMBER, of start and shutdown.
+// The answer line of start and shutdown, NUMBER. It is made at the buffer's front, and the answer is its length.
 pub fn done(out: &mut Buffer, n: u8) -> usize
     ensures { λ r. ⌜ r ≤ longest ⌝ }
 {
     answer::number(out, 0, n as u32)
 }
 
-// NUMBER PACKET, of send and close.
+// The answer line of send and close, NUMBER PACKET, in the same way.
 pub fn sent(out: &mut Buffer, n: u8, length: usize, room: &[u8]) -> usize
     ensures { λ r. ⌜ r ≤ longest ⌝ }
 {
@@ -25,7 +25,7 @@ pub fn sent(out: &mut Buffer, n: u8, length: usize, room: &[u8]) -> usize
     rooms::packet(out, at, n, length, room)
 }
 
-// NUMBER SID PACKET, of open.
+// The answer line of open, NUMBER SID PACKET, in the same way.
 pub fn opened(out: &mut Buffer, n: u8, sid: u16, length: usize, room: &[u8]) -> usize
     ensures { λ r. ⌜ r ≤ longest ⌝ }
 {
@@ -34,7 +34,7 @@ pub fn opened(out: &mut Buffer, n: u8, sid: u16, length: usize, room: &[u8]) -> 
     rooms::packet(out, b, n, length, room)
 }
 
-// NUMBER PAYLOAD ACK, of read.
+// The answer line of read, NUMBER PAYLOAD ACK, in the same way.
 pub fn got(out: &mut Buffer, n: u8, length: usize, room: &[u8], second: usize, ack: &[u8]) -> usize
     ensures { λ r. ⌜ r ≤ longest ⌝ }
 {
@@ -42,7 +42,7 @@ pub fn got(out: &mut Buffer, n: u8, length: usize, room: &[u8], second: usize, a
     rooms::packets(out, at, n, length, room, second, ack)
 }
 
-// NUMBER USED KIND SID MISSING, of take.
+// The answer line of take, NUMBER USED KIND SID MISSING, in the same way.
 pub fn taken(out: &mut Buffer, n: u8, used: usize, kind: u8, sid: u16, missing: usize) -> usize
     ensures { λ r. ⌜ r ≤ longest ⌝ }
 {
@@ -97,7 +97,7 @@ fn part(out: &mut Buffer, storage: &[u8], at: usize, end: usize) -> usize
     answer::bytes(out, 0, &storage[at..end])
 }
 
-// An answer line of that length gets its LF.
+// Puts LF behind an answer line of that length, and answers the new length.
 pub fn ended(out: &mut Buffer, length: usize) -> usize
     ensures { λ r. ⌜ r ≤ longest ⌝ }
 {

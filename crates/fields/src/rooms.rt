@@ -31,7 +31,7 @@ pub fn within(n: usize, s: &[u8]) -> usize
     s.len()
 }
 
-// How much of a room word k asks for.
+// How many bytes of a room word k of the line asks for: no more than the room has.
 pub fn asked(line: &[u8], k: usize, room: &[u8]) -> usize
     ensures { λ r. ⌜ Front r (now (room .entry)) ⌝ }
     ensures { λ r. ⌜ r ≡ min (valueOf (now (line .entry)) k roomLength) (length (now (room .entry))) ⌝ }

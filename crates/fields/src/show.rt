@@ -8,7 +8,7 @@ use session::record::State;
 use table::end::End;
 use table::end::Role;
 
-// ROLE UP, then the slots that aren't all zeros.
+// The answer line of show: ROLE UP, then each slot that isn't all zeros. The answer is its length.
 pub fn end(out: &mut Buffer, e: End) -> usize
     ensures { λ r. ⌜ r ≤ longest ⌝ }
 {

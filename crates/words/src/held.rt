@@ -11,7 +11,8 @@ pub type Line = [u8; LONGEST];
 // What the length of a line counts as that is longer.
 const TOO_LONG: usize = 18446744073709551615;
 
-// Some characters join the line. The answer is its length.
+// Puts some more characters of a line behind those that are held, and answers the line's length. Where it would be too long the answer is over every
+// limit, and no character changes.
 pub fn join(line: &mut Line, held: usize, part: &[u8]) -> usize
     ensures { λ r. ⌜ r ≡ heldWith held (length (now (part .entry))) ⌝ }
     ensures { λ _. ⌜ now (line .exit) ≡ lineWith (now (line .entry)) held (now (part .entry)) ⌝ }

@@ -132,28 +132,28 @@ pub fn value(line: &[u8], k: usize, most: u64) -> u64
     n
 }
 
-// The SID or the length in word k.
+// The number that word k spells as a SID or a length, at most 65,535; 0 where it is more.
 pub fn short(line: &[u8], k: usize) -> u16
     ensures { λ r. ⌜ r ≡ valueOf (now (line .entry)) k short ⌝ }
 {
     value(line, k, SHORT) as u16
 }
 
-// The counter in word k.
+// The number that word k spells as a counter, below 2^32; 0 where it is more.
 pub fn counter(line: &[u8], k: usize) -> u32
     ensures { λ r. ⌜ r ≡ valueOf (now (line .entry)) k counter ⌝ }
 {
     value(line, k, COUNTER) as u32
 }
 
-// The characters are those.
+// Whether the characters are just those.
 pub fn is(chars: &[u8], those: &[u8]) -> bool
     ensures { λ r. ⌜ r ≡ alike (now (chars .entry)) (now (those .entry)) ⌝ }
 {
     check::same(chars, those)
 }
 
-// Lower-case hexadecimal, or `-` for none.
+// Whether the characters spell bytes: lower-case hexadecimal, or `-` for none.
 pub fn is_bytes(chars: &[u8]) -> bool
     ensures { λ r. ⌜ r ≡ isBytes (now (chars .entry)) ⌝ }
 {
@@ -163,7 +163,7 @@ pub fn is_bytes(chars: &[u8]) -> bool
     )
 }
 
-// A role's name.
+// Whether the characters are a role's name, `client` or `server`.
 pub fn is_role(chars: &[u8]) -> bool
     ensures { λ r. ⌜ r ≡ isRole (now (chars .entry)) ⌝ }
 {

@@ -9,14 +9,14 @@ use crate::value;
 use session::record::Session;
 use session::record::State;
 
-// The slot that such a line names.
+// The slot that a `record` line names, in its second word.
 pub fn slot(line: &[u8]) -> usize
     ensures { λ r. ⌜ r ≡ valueOf (now (line .entry)) 1 lastSlot ⌝ }
 {
     value(line, 1, limits::SLOT) as usize
 }
 
-// The record that such a line states.
+// The record that a `record` line states, from its words, whatever they are: it need not be in order.
 pub fn session(line: &[u8]) -> Session
     ensures { λ r. ⌜ r ≡ statedOf (now (line .entry)) ⌝ }
 {
