@@ -12,6 +12,7 @@ pub(crate) struct Answer {
 }
 
 impl Answer {
+    // The answer with these parts.
     pub(crate) fn of(number: u8, values: [u64; 4], sum: u64, end: End) -> Answer
         ensures { λ r. ⌜ r ≡ answerOf number values sum end ⌝ }
     {

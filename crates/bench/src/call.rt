@@ -88,7 +88,8 @@ fn five(number: u8, v: [u64; 4]) -> [u64; 5]
 }
 
 // Makes the call that a number names on the end that some words hold: start 0, open 1, send 2, read 3, close 4, shutdown 5, else take; send, read
-// and take count times. The words become those of the record that comes back, `values` the last answer's; the answer is the sum over all calls.
+// and take count times. The words become those of the record that comes back, `values` the last answer's; the buffers are as the calls leave them.
+// The answer is the sum of numbers and lengths over the sends, reads or takes, and 0 for another call.
 #[no_mangle]
 pub extern "C" fn bench_call(
     call: u32,

@@ -75,7 +75,7 @@ fn session_of(w: &[u32], i: usize) -> Session
     )
 }
 
-// The end that some words hold.
+// The end that some words hold. Words past those of an end aren't looked at.
 pub(crate) fn end_of(w: &[u32]) -> End
     ensures { λ r. ⌜ r ≡ endFrom (now (w .entry)) ⌝ }
 {
@@ -163,7 +163,7 @@ fn put_session(w: &mut [u32], i: usize, x: Session)
     }
 }
 
-// An end's words.
+// Puts an end's words over those in `w`, from the first on. Words past those of an end stay; what `w` has no room for isn't put.
 pub(crate) fn put_end(w: &mut [u32], e: End)
     ensures { λ _. ⌜ now (w .exit) ≡ over (wordsOf e) (now (w .entry)) ⌝ }
 {

@@ -37,7 +37,8 @@ fn next_sid(sid: u16, last: u16, step: u16) -> u16
     }
 }
 
-// Takes that many packets of a stream.
+// Takes count packets from the front of `bytes`, each take given what the ones before left; payloads go to the storage as take says. What comes back
+// is the last answer's number and values (zeros for no take), the sum of all numbers and bytes used, and the end after the last.
 pub(crate) fn takes(first: End, bytes: &[u8], storage: &mut [u8], count: usize) -> Answer
     ensures { λ r. ⌜ r ≡ takesOf first (now (bytes .entry)) (now (storage .entry)) count .answer ⌝ }
     ensures { λ _. ⌜ now (storage .exit) ≡ takesOf first (now (bytes .entry)) (now (storage .entry)) count .storage ⌝ }
@@ -61,7 +62,8 @@ pub(crate) fn takes(first: End, bytes: &[u8], storage: &mut [u8], count: usize) 
     Answer::of(number, values, sum, e)
 }
 
-// Sends one payload that many times, on each session in turn.
+// Sends one payload count times, in the session `start` and then in each in turn, every packet to the front of the same buffer. What comes back is
+// the last answer's number and length (zeros for no send), the sum of all numbers and lengths, and the end after the last.
 pub(crate) fn sends(
     first: End,
     start: u16,
@@ -93,7 +95,8 @@ pub(crate) fn sends(
     Answer::of(number, values, sum, e)
 }
 
-// Reads that many payloads, from each session in turn.
+// Reads count payloads, from the session `start` and then from each in turn, all to the front of the same two buffers. What comes back is the last
+// answer's number and lengths (zeros for no read), the sum of all numbers and payload lengths, and the end after the last.
 pub(crate) fn reads(
     first: End,
     start: u16,

@@ -22,7 +22,7 @@ const FRAME: usize = Header::LEN + (Session::PAYLOAD as usize);
 // The same as text: two digits a byte.
 const DIGITS: usize = 2 * FRAME;
 
-// The unread packets of the frame's session.
+// How many packets of the frame's session are unread at the end e; 0 where the frame has no whole header, or e no such session.
 fn unread_for(e: End, frame: &[u8]) -> u32
     ensures { λ r. ⌜ r ≡ unreadFor e (now (frame .entry)) ⌝ }
 {
@@ -33,7 +33,7 @@ fn unread_for(e: End, frame: &[u8]) -> u32
     e.unread_of(h.sid)
 }
 
-// A frame. It goes once to take, and unread packets are counted after it.
+// Feeds a frame to one take, and counts the unread packets of its session after it. Answers as `one_line` does.
 fn frame_fed(e: End, frame: &[u8], storage: &mut [u8; storage::LENGTH]) -> Fed
     ensures { λ r. ⌜ r ≡ frameFed e (now (frame .entry)) ⌝ }
     ensures { λ _. ⌜ now (storage .exit) ≡ takeStorage base e (now (frame .entry)) (now (storage .entry)) ⌝ }
@@ -47,7 +47,7 @@ fn frame_fed(e: End, frame: &[u8], storage: &mut [u8; storage::LENGTH]) -> Fed
     }
 }
 
-// Lower-case hexadecimal, of no more bytes than a frame has.
+// Whether a line is a frame: lower-case hexadecimal, of no more bytes than the longest frame has.
 fn is_frame(line: &[u8]) -> bool
     ensures { λ r. ⌜ r ≡ isFrame (now (line .entry)) ⌝ }
 {
@@ -57,7 +57,8 @@ fn is_frame(line: &[u8]) -> bool
     text::hex::is_hex(line)
 }
 
-// Any line.
+// Feeds a line of the input to the server e if it is a frame: to one take, which stores a payload in the storage. Answers what the report tells of
+// the line, and the server after it. A line that is no frame changes neither server nor storage.
 pub fn one_line(e: End, line: &[u8], storage: &mut [u8; storage::LENGTH]) -> Fed
     ensures { λ r. ⌜ r ≡ lineFed e (now (line .entry)) ⌝ }
     ensures { λ _. ⌜ now (storage .exit) ≡ lineStorage e (now (line .entry)) (now (storage .entry)) ⌝ }

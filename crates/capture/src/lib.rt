@@ -21,7 +21,7 @@ pub const INPUT: usize = 65536;
 // empty lines, has 1,037,479 bytes.)
 pub const REPORT: usize = 1703956;
 
-// The report on some lines.
+// Puts the report on some lines at the front of `out`, and answers its length; later bytes are untouched.
 fn feed_lines(text: &[u8], out: &mut [u8; REPORT]) -> usize
     requires { ⌜ length (now text) ≤ inputLimit ⌝ }
     ensures { λ _. ⌜ now (out .exit) ≡ onto (report 1 (startOf role'.Role.Server) (lines (now (text .entry)))) (now (out .entry)) ⌝ }

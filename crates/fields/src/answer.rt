@@ -11,7 +11,8 @@ pub const LONGEST: usize = 32832;
 
 pub type Buffer = [u8; LONGEST];
 
-// Puts some characters into the answer line from a place on, and answers the place behind them; nothing goes past the buffer's end.
+// Copies all of `chars` into the answer line from place `at` on, and answers the place behind them; no other byte changes. Where they don't all fit,
+// nothing is written, and the answer is `at`.
 pub fn put(out: &mut Buffer, at: usize, chars: &[u8]) -> usize
     requires { ⌜ at ≤ longest ⌝ }
     ensures { λ r. ⌜ Behind at r ⌝ }
@@ -23,7 +24,8 @@ pub fn put(out: &mut Buffer, at: usize, chars: &[u8]) -> usize
     at + chars.len()
 }
 
-// Puts one character there, in the same way.
+// Writes one character at place `at`, and answers the place behind it; no other byte changes. At the buffer's end nothing is written, and the answer
+// is `at`.
 pub fn byte(out: &mut Buffer, at: usize, c: u8) -> usize
     requires { ⌜ at ≤ longest ⌝ }
     ensures { λ r. ⌜ Behind at r ⌝ }
@@ -35,7 +37,8 @@ pub fn byte(out: &mut Buffer, at: usize, c: u8) -> usize
     at + 1
 }
 
-// A number in decimal.
+// Writes n from place `at` on in the fewest decimal digits, and answers the place behind them. Where fewer than ten places are left, it writes
+// nothing and answers `at`.
 fn digits(out: &mut Buffer, at: usize, n: u32) -> usize
     requires { ⌜ at ≤ longest ⌝ }
     ensures { λ r. ⌜ Behind at r ⌝ }
@@ -46,7 +49,8 @@ fn digits(out: &mut Buffer, at: usize, n: u32) -> usize
     decimal::put(out, at, n)
 }
 
-// Bytes in hexadecimal.
+// Writes bytes from place `at` on, two lower-case hexadecimal digits a byte, and answers the place behind them. Where they don't all fit, it writes
+// nothing and answers `at`.
 fn pairs(out: &mut Buffer, at: usize, bytes: &[u8]) -> usize
     requires { ⌜ at ≤ longest ⌝ }
     ensures { λ r. ⌜ Behind at r ⌝ }
@@ -57,7 +61,7 @@ fn pairs(out: &mut Buffer, at: usize, bytes: &[u8]) -> usize
     hex::put(out, at, bytes)
 }
 
-// The space before every field but the first.
+// Writes the space before every field but the first, and answers the place behind it. At place 0 it writes nothing.
 fn space(out: &mut Buffer, at: usize) -> usize
     requires { ⌜ at ≤ longest ⌝ }
     ensures { λ r. ⌜ Behind at r ⌝ }
@@ -68,7 +72,8 @@ fn space(out: &mut Buffer, at: usize) -> usize
     byte(out, at, b' ')
 }
 
-// Puts a space and a word there: a field of the answer.
+// Writes a field from place `at` on: a space, unless `at` is 0, and all of `chars`. Answers the place behind what was written; what doesn't fit is
+// left out, and no other byte changes.
 pub fn word(out: &mut Buffer, at: usize, chars: &[u8]) -> usize
     requires { ⌜ at ≤ longest ⌝ }
     ensures { λ r. ⌜ Behind at r ⌝ }
@@ -77,7 +82,8 @@ pub fn word(out: &mut Buffer, at: usize, chars: &[u8]) -> usize
     put(out, k, chars)
 }
 
-// Puts a space and a number there, in the fewest decimal digits.
+// Writes a field from place `at` on: a space, unless `at` is 0, and n in the fewest decimal digits. Answers the place behind what was written; where
+// fewer than ten places are left the digits are left out, and no other byte changes.
 pub fn number(out: &mut Buffer, at: usize, n: u32) -> usize
     requires { ⌜ at ≤ longest ⌝ }
     ensures { λ r. ⌜ Behind at r ⌝ }
@@ -86,7 +92,8 @@ pub fn number(out: &mut Buffer, at: usize, n: u32) -> usize
     digits(out, k, n)
 }
 
-// Puts numbers there, each behind the same mark.
+// Writes all of the numbers from place `from` on, in decimal, each behind the character `mark`. Answers the place behind what was written, `from`
+// where there are no numbers; what doesn't fit is left out, and no other byte changes.
 pub fn each(out: &mut Buffer, from: usize, mark: u8, numbers: &[u32]) -> usize
     requires { ⌜ from ≤ longest ⌝ }
     ensures { λ r. ⌜ Behind from r ⌝ }
@@ -101,7 +108,8 @@ pub fn each(out: &mut Buffer, from: usize, mark: u8, numbers: &[u32]) -> usize
     at
 }
 
-// Puts a space and bytes there, as lower-case hexadecimal, or `-` for none.
+// Writes a field from place `at` on: a space, unless `at` is 0, and the bytes as lower-case hexadecimal, or `-` for none. Answers the place behind
+// what was written; what doesn't fit is left out, and no other byte changes.
 pub fn bytes(out: &mut Buffer, at: usize, b: &[u8]) -> usize
     requires { ⌜ at ≤ longest ⌝ }
     ensures { λ r. ⌜ Behind at r ⌝ }

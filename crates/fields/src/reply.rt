@@ -10,14 +10,15 @@ use text::line::LF;
 use words::forms::Form;
 use words::limits;
 
-// The answer line of start and shutdown, NUMBER. It is made at the buffer's front, and the answer is its length.
+// Makes the answer line of start and shutdown, NUMBER, at the buffer's front, and answers its length. Later bytes stay.
 pub fn done(out: &mut Buffer, n: u8) -> usize
     ensures { λ r. ⌜ r ≤ longest ⌝ }
 {
     answer::number(out, 0, n as u32)
 }
 
-// The answer line of send and close, NUMBER PACKET, in the same way.
+// Makes the answer line of send and close, NUMBER PACKET, at the buffer's front, and answers its length. PACKET is the first `length` bytes of the
+// room that the call was lent; ` touched` follows if the call wrote into the room where it mustn't. Later bytes stay.
 pub fn sent(out: &mut Buffer, n: u8, length: usize, room: &[u8]) -> usize
     ensures { λ r. ⌜ r ≤ longest ⌝ }
 {
@@ -25,7 +26,7 @@ pub fn sent(out: &mut Buffer, n: u8, length: usize, room: &[u8]) -> usize
     rooms::packet(out, at, n, length, room)
 }
 
-// The answer line of open, NUMBER SID PACKET, in the same way.
+// Makes the answer line of open, NUMBER SID PACKET, at the buffer's front, and answers its length. PACKET is as in `sent`. Later bytes stay.
 pub fn opened(out: &mut Buffer, n: u8, sid: u16, length: usize, room: &[u8]) -> usize
     ensures { λ r. ⌜ r ≤ longest ⌝ }
 {
@@ -34,7 +35,8 @@ pub fn opened(out: &mut Buffer, n: u8, sid: u16, length: usize, room: &[u8]) -> 
     rooms::packet(out, b, n, length, room)
 }
 
-// The answer line of read, NUMBER PAYLOAD ACK, in the same way.
+// Makes the answer line of read, NUMBER PAYLOAD ACK, at the buffer's front, and answers its length. PAYLOAD is the first `length` bytes of `room`,
+// ACK the first `second` of `ack`; ` touched` follows if the call wrote into either where it mustn't. Later bytes stay.
 pub fn got(out: &mut Buffer, n: u8, length: usize, room: &[u8], second: usize, ack: &[u8]) -> usize
     ensures { λ r. ⌜ r ≤ longest ⌝ }
 {
@@ -42,7 +44,7 @@ pub fn got(out: &mut Buffer, n: u8, length: usize, room: &[u8], second: usize, a
     rooms::packets(out, at, n, length, room, second, ack)
 }
 
-// The answer line of take, NUMBER USED KIND SID MISSING, in the same way.
+// Makes the answer line of take, NUMBER USED KIND SID MISSING, at the buffer's front, and answers its length. Later bytes stay.
 pub fn taken(out: &mut Buffer, n: u8, used: usize, kind: u8, sid: u16, missing: usize) -> usize
     ensures { λ r. ⌜ r ≤ longest ⌝ }
 {
@@ -51,7 +53,7 @@ pub fn taken(out: &mut Buffer, n: u8, used: usize, kind: u8, sid: u16, missing: 
     answer::each(out, at, b' ', &rest)
 }
 
-// A count of bytes, which is never over 2^32 - 1.
+// A count of bytes as 32 bits. It is never over 2^32 - 1; a larger one would be 0.
 fn few(n: usize) -> u32 {
     if 4294967295 < n {
         return 0;
@@ -59,7 +61,8 @@ fn few(n: usize) -> u32 {
     n as u32
 }
 
-// The program's own lines: fields for show and peek, `ok` where something changed, and `bad` for a line that says nothing.
+// Makes the answer line of one of the program's own lines at the buffer's front, and answers its length: `ok` for lend, record and end, the fields of
+// the end for show, the bytes that the line asks for of the storage for peek, and `bad` for any other form. Later bytes stay.
 pub fn own(out: &mut Buffer, e: End, form: Form, line: &[u8], storage: &[u8]) -> usize
     ensures { λ r. ⌜ r ≤ longest ⌝ }
 {
@@ -71,6 +74,7 @@ pub fn own(out: &mut Buffer, e: End, form: Form, line: &[u8], storage: &[u8]) ->
     }
 }
 
+// Makes the answer line `bad`, and answers its length.
 fn bad(out: &mut Buffer) -> usize
     ensures { λ r. ⌜ r ≤ longest ⌝ }
 {
@@ -97,7 +101,8 @@ fn part(out: &mut Buffer, storage: &[u8], at: usize, end: usize) -> usize
     answer::bytes(out, 0, &storage[at..end])
 }
 
-// Puts LF behind an answer line of that length, and answers the new length.
+// Writes LF behind an answer line of that length, and answers the new length; no other byte changes. Where the buffer is full, nothing is written,
+// and the answer is the buffer's length.
 pub fn ended(out: &mut Buffer, length: usize) -> usize
     ensures { λ r. ⌜ r ≤ longest ⌝ }
 {

@@ -19,8 +19,8 @@ pub const FILL: u8 = 0xa5;
 
 pub type Room = [u8; limits::ROOM_LENGTH];
 
-// So many bytes of a slice, or all of it where that is more. A length that a word asks for or a call answers goes through here before it is the
-// end of a range.
+// Answers n, or the length of `s` where n is more; the bytes of `s` aren't looked at. A length that a word asks for or a call answers goes through
+// here before it is the end of a range.
 pub fn within(n: usize, s: &[u8]) -> usize
     ensures { λ r. ⌜ Front r (now (s .entry)) ⌝ }
     ensures { λ r. ⌜ r ≡ min n (length (now (s .entry))) ⌝ }
@@ -31,7 +31,7 @@ pub fn within(n: usize, s: &[u8]) -> usize
     s.len()
 }
 
-// How many bytes of a room word k of the line asks for: no more than the room has.
+// Answers how many bytes of a room word k of the line asks for, and no more than the room has. A word that is no number up to 8,192 asks for 0.
 pub fn asked(line: &[u8], k: usize, room: &[u8]) -> usize
     ensures { λ r. ⌜ Front r (now (room .entry)) ⌝ }
     ensures { λ r. ⌜ r ≡ min (valueOf (now (line .entry)) k roomLength) (length (now (room .entry))) ⌝ }
@@ -39,7 +39,8 @@ pub fn asked(line: &[u8], k: usize, room: &[u8]) -> usize
     within(words::value(line, k, limits::ROOM) as usize, room)
 }
 
-// The bytes that a word spells, at the front of a room, which is long enough for any line's. The answer is how many.
+// Writes the bytes that a word spells in hexadecimal at the front of a room, and answers how many; later bytes stay. A word that is no hexadecimal,
+// or spells more bytes than a room has, spells none.
 pub fn bytes(chars: &[u8], out: &mut Room) -> usize
     ensures { λ r. ⌜ Front r (now (out .exit)) ⌝ }
     ensures { λ r. ⌜ r ≡ length (bytesOf (now (chars .entry))) ⌝ }
@@ -68,7 +69,8 @@ fn changed(room: &[u8], from: usize) -> bool
     false
 }
 
-// A call that answered so wrote where it mustn't: behind its front, or anywhere on a refusal.
+// Whether a call that answered n wrote into a room where it mustn't: behind the first `front` bytes if n is 0, anywhere if it refused. What shows it
+// is a byte other than FILL there; the room is only read.
 pub fn touched(n: u8, front: usize, room: &[u8]) -> bool
     ensures { λ r. ⌜ r ≡ isTouched n front (now (room .entry)) ⌝ }
 {
@@ -78,7 +80,7 @@ pub fn touched(n: u8, front: usize, room: &[u8]) -> bool
     changed(room, 0)
 }
 
-// A field: what a call put at the front of a room.
+// Writes a field from place `at` on: the first `length` bytes of a room, or all where it has fewer. Answers the place behind it.
 fn front(out: &mut Buffer, at: usize, length: usize, room: &[u8]) -> usize
     requires { ⌜ at ≤ longest ⌝ }
     ensures { λ r. ⌜ Behind at r ⌝ }
@@ -87,7 +89,7 @@ fn front(out: &mut Buffer, at: usize, length: usize, room: &[u8]) -> usize
     answer::bytes(out, at, &room[..n])
 }
 
-// The answer line's last word, if a room was touched.
+// Writes the answer line's last word from place `at` on if a room was touched, and nothing else. Answers the place behind it.
 fn mark(out: &mut Buffer, at: usize, is_touched: bool) -> usize
     requires { ⌜ at ≤ longest ⌝ }
     ensures { λ r. ⌜ Behind at r ⌝ }
@@ -98,7 +100,8 @@ fn mark(out: &mut Buffer, at: usize, is_touched: bool) -> usize
     at
 }
 
-// The last fields of a call with one room: its packet, and whether the room was touched.
+// Writes the last fields of a call that answered n and was lent one room, from place `at` on: the room's first `length` bytes, and `touched` if the
+// call wrote into it where it mustn't. Answers the place behind what was written; what doesn't fit is left out, and no other byte changes.
 pub fn packet(out: &mut Buffer, at: usize, n: u8, length: usize, room: &[u8]) -> usize
     requires { ⌜ at ≤ longest ⌝ }
     ensures { λ r. ⌜ Behind at r ⌝ }
@@ -107,7 +110,8 @@ pub fn packet(out: &mut Buffer, at: usize, n: u8, length: usize, room: &[u8]) ->
     mark(out, k, touched(n, length, room))
 }
 
-// The same of a call with two rooms.
+// The same of a call with two rooms: the first `length` bytes of `room`, the first `second` of `other`, and `touched` once if the call wrote into
+// either where it mustn't.
 pub fn packets(
     out: &mut Buffer,
     at: usize,

@@ -8,7 +8,8 @@ use session::record::State;
 use table::end::End;
 use table::end::Role;
 
-// The answer line of show: ROLE UP, then each slot that isn't all zeros. The answer is its length.
+// Makes the answer line of show at the buffer's front, and answers its length: ROLE UP, then a field for each slot that isn't all zeros, the lowest
+// first. Later bytes stay.
 pub fn end(out: &mut Buffer, e: End) -> usize
     ensures { λ r. ⌜ r ≤ longest ⌝ }
 {

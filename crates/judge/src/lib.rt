@@ -25,7 +25,7 @@ pub enum Act {
     Do(Cell),
 }
 
-// The header at the front; all zeros where there are fewer than sixteen bytes.
+// The header in the first sixteen of some bytes; all zeros where there are fewer. Later bytes aren't looked at.
 pub fn front(bytes: &[u8]) -> Header
     ensures { λ r. ⌜ r ≡ frontOf (now (bytes .entry)) ⌝ }
 {
@@ -35,7 +35,7 @@ pub fn front(bytes: &[u8]) -> Header
     Header::read(bytes)
 }
 
-// How many bytes more are needed than were given: of sixteen where the header isn't whole, else of the packet's LENGTH.
+// How many bytes more are needed than were given: of sixteen where the header isn't whole, else of the packet's LENGTH; 0 where none is missing.
 pub fn missing(h: Header, given: usize) -> usize
     ensures { λ r. ⌜ r ≡ missingOf h given ⌝ }
 {
@@ -154,8 +154,9 @@ fn packet_act(role: Role, held: bool, none: bool, x: Session, h: Header, given: 
     }
 }
 
-// 12, 1, 9, 10, then the packet: for what was seen of an end, whether it is up, whether the storage is too short, its role, whether no slot is
-// free, the header at the front and how many bytes were given.
+// What take is to do, for what was seen of an end, whether it is up, whether the storage is too short, its role, whether no slot is free, the header
+// at the front and how many bytes were given: stop with the first number that applies, of 12, 1, 9, 10 and the packet's own; else begin a session for
+// a SYN, and for another packet do what the table's cell says.
 pub fn act_of(
     l: Look,
     up: bool,

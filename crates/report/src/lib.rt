@@ -18,7 +18,7 @@ pub struct Line {
 }
 
 impl Line {
-    // What is told of a line of the input that is no frame: `bad`.
+    // What is told of a line of the input that is no frame: `bad`, and zeros for all else.
     pub fn bad() -> Line
         ensures { λ r. ⌜ r ≡ badLine ⌝ }
     {
@@ -30,7 +30,8 @@ impl Line {
         }
     }
 
-    // What is told of a frame: take's answer, the frame's SID (dashes where it has no header), the unread packets.
+    // What is told of a frame: take's answer, the frame's SID in four digits (dashes where it is shorter than a header), the unread packets. The
+    // frame is only read.
     pub fn of(answer: u8, frame: &[u8], unread: u32) -> Line
         ensures { λ r. ⌜ r ≡ lineOf answer (now (frame .entry)) unread ⌝ }
     {
@@ -43,7 +44,7 @@ impl Line {
     }
 }
 
-// The number, and `bad`.
+// Writes the line of an input line that is no frame: its number, and `bad`.
 fn bad_row(out: &mut [u8], at: usize, n: u32) -> usize
     requires { ⌜ (n ≤ lineLimit) × (at + rowLimit ≤ length (now out)) ⌝ }
     ensures { λ r. ⌜ Wrote (now (out .entry)) at (badText n) (now (out .exit)) r ⌝ }
@@ -53,7 +54,7 @@ fn bad_row(out: &mut [u8], at: usize, n: u32) -> usize
     word::copy(out, a, b" bad\n")
 }
 
-// The number, and what is told of a frame.
+// Writes the line of a frame: its number, and what is told of it.
 fn told_row(out: &mut [u8], at: usize, n: u32, l: Line) -> usize
     requires { ⌜ (n ≤ lineLimit) × (at + rowLimit ≤ length (now out)) ⌝ }
     ensures { λ r. ⌜ Wrote (now (out .entry)) at (toldRow n l) (now (out .exit)) r ⌝ }
@@ -65,7 +66,8 @@ fn told_row(out: &mut [u8], at: usize, n: u32, l: Line) -> usize
     word::of_session(out, b, sid, l.unread)
 }
 
-// Writes line n of the report into a buffer from a place on, and answers the place behind it. No other byte changes.
+// Writes line n of the report into `out` from place `at` on, with its LF: the number n, and what `l` tells. Answers the place behind it; no other
+// byte changes. 26 bytes are room enough for any line of a report.
 pub fn line_row(out: &mut [u8], at: usize, n: u32, l: Line) -> usize
     requires { ⌜ (n ≤ lineLimit) × (at + rowLimit ≤ length (now out)) ⌝ }
     ensures { λ r. ⌜ Wrote (now (out .entry)) at (lineRow n l) (now (out .exit)) r ⌝ }
@@ -77,7 +79,8 @@ pub fn line_row(out: &mut [u8], at: usize, n: u32, l: Line) -> usize
     told_row(out, at, n, l)
 }
 
-// Writes the report's last line in the same way: the end is up or down, and so many sessions are held.
+// Writes the report's last line into `out` from place `at` on, with its LF: the end is up or down, and so many sessions are held. Answers the place
+// behind it; no other byte changes. 20 bytes are room enough.
 pub fn last_row(out: &mut [u8], at: usize, up: bool, held: u32) -> usize
     requires { ⌜ at + lastLimit ≤ length (now out) ⌝ }
     ensures { λ r. ⌜ Wrote (now (out .entry)) at (endRow up held) (now (out .exit)) r ⌝ }

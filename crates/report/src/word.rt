@@ -8,7 +8,7 @@ ghost use Rattle.report.specs.Lines.{numberWord, lastNumber, ofSession, 
 use text::digit::glyph;
 use wire::header::Header;
 
-// Some characters.
+// Copies all of `word` into `out` from place `at` on, and answers the place behind it. No other byte changes.
 pub fn copy(out: &mut [u8], at: usize, word: &[u8]) -> usize
     requires { ⌜ at + length (now word) ≤ length (now out) ⌝ }
     ensures { λ r. ⌜ Wrote (now (out .entry)) at (now (word .entry)) (now (out .exit)) r ⌝ }
@@ -17,7 +17,7 @@ pub fn copy(out: &mut [u8], at: usize, word: &[u8]) -> usize
     at + word.len()
 }
 
-// A space and a number.
+// Writes a space and n in the fewest decimal digits from place `at` on, and answers the place behind them. No other byte changes.
 pub fn number(out: &mut [u8], at: usize, n: u32) -> usize
     requires { ⌜ at + 11 ≤ length (now out) ⌝ }
     ensures { λ r. ⌜ Wrote (now (out .entry)) at (numberWord n) (now (out .exit)) r ⌝ }
@@ -26,7 +26,7 @@ pub fn number(out: &mut [u8], at: usize, n: u32) -> usize
     text::decimal::put(out, at + 1, n)
 }
 
-// The same at a line's end, with LF.
+// The same at a line's end: LF stands behind the number, and the answer is the place behind LF.
 pub fn last_number(out: &mut [u8], at: usize, n: u32) -> usize
     requires { ⌜ at + 12 ≤ length (now out) ⌝ }
     ensures { λ r. ⌜ Wrote (now (out .entry)) at (lastNumber n) (now (out .exit)) r ⌝ }
@@ -50,7 +50,7 @@ fn sid_digits(sid: u16) -> [u8; 4]
     ]
 }
 
-// The SID of a frame, or dashes.
+// The SID of a frame in four digits, the high byte first; dashes where the frame is shorter than a header.
 pub fn sid(frame: &[u8]) -> [u8; 4]
     ensures { λ r. ⌜ r ≡ sidText (now (frame .entry)) ⌝ }
 {
@@ -61,7 +61,8 @@ pub fn sid(frame: &[u8]) -> [u8; 4]
     sid_digits(h.sid)
 }
 
-// The second half of a frame's line: its SID, and that session's unread packets.
+// Writes the second half of a frame's line from place `at` on: a space, its SID, that session's unread packets, LF. Answers the place behind it; no
+// other byte changes.
 pub fn of_session(out: &mut [u8], at: usize, sid: [u8; 4], unread: u32) -> usize
     requires { ⌜ at + 17 ≤ length (now out) ⌝ }
     ensures { λ r. ⌜ Wrote (now (out .entry)) at (ofSession sid unread) (now (out .exit)) r ⌝ }
@@ -71,7 +72,7 @@ pub fn of_session(out: &mut [u8], at: usize, sid: [u8; 4], unread: u32) -> usize
     last_number(out, b, unread)
 }
 
-// `end`, and `up` or `down`.
+// Writes `end up` or `end down` from place `at` on, and answers the place behind it. No other byte changes.
 pub fn state(out: &mut [u8], at: usize, up: bool) -> usize
     requires { ⌜ at + 8 ≤ length (now out) ⌝ }
     ensures { λ r. ⌜ Wrote (now (out .entry)) at (endState up) (now (out .exit)) r ⌝ }

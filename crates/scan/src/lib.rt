@@ -17,7 +17,7 @@ pub struct Look {
     pub free: usize,
 }
 
-// What is seen of an end that isn't well made.
+// What is seen of an end that isn't well made: nothing else.
 fn nothing() -> Look
     ensures { λ r. ⌜ r ≡ seenNothing ⌝ }
 {
@@ -53,8 +53,9 @@ fn sids_differ(e: End) -> bool
     true
 }
 
-// One look through the slots: whether the end is well made, and then the slot and record of the session with that SID and the lowest free slot. SIDs
-// are marked by their rest modulo 64: where no mark is met twice they differ, and no slot is held against another.
+// One look through the slots: whether the end is well made, and then the slot and record of the session with that SID (16 and a free record where
+// there is none) and the lowest free slot (16 where there is none). SIDs are marked by their rest modulo 64: where no mark is met twice they differ,
+// and no slot is held against another.
 pub fn scan(e: End, sid: u16) -> Look
     ensures { λ r. ⌜ r ≡ lookOf base e sid ⌝ }
 {

@@ -6,7 +6,7 @@ ghost use lib.Seq.{paste};
 ghost use Rattle.text.specs.Decimal.{decimal};
 use crate::digit;
 
-// The digits of n, into a buffer from a place on. The higher ones are written first.
+// Writes the digits of n into `out` from place `at` on, the higher ones first, and answers the place behind them.
 fn put_digits(out: &mut [u8], at: usize, n: u32) -> usize
     requires { ⌜ at + length (decimal n) ≤ length (now out) ⌝ }
     ensures { λ _. ⌜ now (out .exit) ≡ paste (now (out .entry)) at (decimal n) (length (decimal n)) ⌝ }
@@ -21,7 +21,8 @@ fn put_digits(out: &mut [u8], at: usize, n: u32) -> usize
     k + 1
 }
 
-// The same where there is room for ten digits, enough for any n. The answer is the place behind them.
+// Writes n into `out` from place `at` on, in the fewest decimal digits, and answers the place behind them. No other byte changes. There must be room
+// for ten digits, enough for any n.
 pub fn put(out: &mut [u8], at: usize, n: u32) -> usize
     requires { ⌜ at + 10 ≤ length (now out) ⌝ }
     ensures { λ _. ⌜ now (out .exit) ≡ paste (now (out .entry)) at (decimal n) (length (decimal n)) ⌝ }

@@ -48,7 +48,8 @@ pub fn decode(text: &[u8], out: &mut [u8]) -> usize
     n
 }
 
-// The digits of some bytes, into a buffer from a place on. The answer is the place behind them.
+// Writes all of `bytes` into `out` from place `at` on, which must have room, two lower-case hexadecimal digits a byte. Answers the place behind them;
+// no other byte changes.
 pub fn put(out: &mut [u8], at: usize, bytes: &[u8]) -> usize
     requires { ⌜ at + 2 * length (now bytes) ≤ length (now out) ⌝ }
     ensures { λ _. ⌜ now (out .exit) ≡ paste (now (out .entry)) at (toHex (now (bytes .entry))) (length (toHex (now (bytes .entry)))) ⌝ }

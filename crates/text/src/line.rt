@@ -6,7 +6,7 @@ ghost use Rattle.text.specs.Lines.{until, firstLine};
 
 pub const LF: u8 = 10;
 
-// The index of the first `stop` from a place on, or the text's length.
+// The index of the first `stop` in the text from index `from` on, or the text's length where there is none.
 pub fn until(text: &[u8], from: usize, stop: u8) -> usize
     requires { ⌜ from ≤ length (now text) ⌝ }
     ensures { λ r. ⌜ r ≡ from + length (until stop (drop from (now (text .entry)))) ⌝ }

@@ -192,7 +192,7 @@ fn is_right(line: &[u8], form: Form) -> bool
     }
 }
 
-// The form that the first word names, if the others are as it asks.
+// The form that the line's first word names, if the words behind it are as many and as that name asks; else `Bad`. The line is only read.
 pub fn form_of(line: &[u8]) -> Form
     ensures { λ r. ⌜ r ≡ formOf (now (line .entry)) ⌝ }
 {

@@ -27,7 +27,8 @@ pub fn join(line: &mut Line, held: usize, part: &[u8]) -> usize
     held + part.len()
 }
 
-// How many characters of a line of n count: none of one that is too long, so that it is `bad`, as an empty line is.
+// Answers n, how many characters of a line count, where the array `line` has so many; else 0, so that a line that is too long is `bad`, as an empty
+// one is. The characters aren't looked at.
 pub fn counted(n: usize, line: &[u8]) -> usize
     ensures { λ r. ⌜ Front r (now (line .entry)) ⌝ }
     ensures { λ r. ⌜ r ≡ countOf n (length (now (line .entry))) ⌝ }

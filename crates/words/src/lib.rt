@@ -31,7 +31,7 @@ fn one_if_space(c: u8) -> usize
     0
 }
 
-// How many words follow the first: as many as there are spaces.
+// Answers how many words follow the first: as many as the line has spaces.
 pub fn after_first(line: &[u8]) -> usize
     ensures { λ r. ⌜ r ≡ spaces (now (line .entry)) ⌝ }
 {
@@ -61,7 +61,7 @@ fn begin(line: &[u8], k: usize) -> usize
     i
 }
 
-// Word k, counted from 0; empty where there are fewer.
+// Word k of the line, counted from 0, as a part of the line itself; empty where there are fewer.
 pub fn word(line: &[u8], k: usize) -> &[u8]
     ensures { λ r. ⌜ now r ≡ wordOf k (now (line .entry)) ⌝ }
 {
@@ -96,14 +96,15 @@ fn number(chars: &[u8]) -> u64
     n
 }
 
-// The number that word k spells, over every limit where it is none.
+// The number that word k of the line spells in one to ten decimal digits. Where there is no such word, or it is no such number, the answer is
+// 2^64 - 1, over every limit in `limits`.
 pub fn number_at(line: &[u8], k: usize) -> u64
     ensures { λ r. ⌜ r ≡ numberAt (now (line .entry)) k ⌝ }
 {
     number(word(line, k))
 }
 
-// The words after the first are numbers, one for each limit and none over its own.
+// Whether the words after the first are numbers, one for each limit in `most` and in their order, and none over its own.
 pub fn numbers(line: &[u8], most: &[u64]) -> bool
     ensures { λ r. ⌜ r ≡ areNumbers (now (line .entry)) (now (most .entry)) ⌝ }
 {
@@ -120,7 +121,7 @@ pub fn numbers(line: &[u8], most: &[u64]) -> bool
     true
 }
 
-// The number that word k spells; 0 where that is over the limit.
+// The number that word k of the line spells, as `number_at` has it; 0 where that is over `most`. So the answer is at most `most`.
 pub fn value(line: &[u8], k: usize, most: u64) -> u64
     ensures { λ r. ⌜ r ≤ most ⌝ }
     ensures { λ r. ⌜ r ≡ valueOf (now (line .entry)) k most ⌝ }
@@ -132,28 +133,28 @@ pub fn value(line: &[u8], k: usize, most: u64) -> u64
     n
 }
 
-// The number that word k spells as a SID or a length, at most 65,535; 0 where it is more.
+// The number that word k spells as a SID or a length, at most 65,535; 0 where it is more, or no number.
 pub fn short(line: &[u8], k: usize) -> u16
     ensures { λ r. ⌜ r ≡ valueOf (now (line .entry)) k short ⌝ }
 {
     value(line, k, SHORT) as u16
 }
 
-// The number that word k spells as a counter, below 2^32; 0 where it is more.
+// The number that word k spells as a counter, below 2^32; 0 where it is more, or no number.
 pub fn counter(line: &[u8], k: usize) -> u32
     ensures { λ r. ⌜ r ≡ valueOf (now (line .entry)) k counter ⌝ }
 {
     value(line, k, COUNTER) as u32
 }
 
-// Whether the characters are just those.
+// Whether the characters are just those: as many, and the same in each place.
 pub fn is(chars: &[u8], those: &[u8]) -> bool
     ensures { λ r. ⌜ r ≡ alike (now (chars .entry)) (now (those .entry)) ⌝ }
 {
     check::same(chars, those)
 }
 
-// Whether the characters spell bytes: lower-case hexadecimal, or `-` for none.
+// Whether the characters spell bytes: lower-case hexadecimal, two digits a byte, or `-` for none. An empty word doesn't.
 pub fn is_bytes(chars: &[u8]) -> bool
     ensures { λ r. ⌜ r ≡ isBytes (now (chars .entry)) ⌝ }
 {

@@ -9,14 +9,15 @@ use crate::value;
 use session::record::Session;
 use session::record::State;
 
-// The slot that a `record` line names, in its second word.
+// The slot that a `record` line names in word 1; 0 where that is no number up to 15.
 pub fn slot(line: &[u8]) -> usize
     ensures { λ r. ⌜ r ≡ valueOf (now (line .entry)) 1 lastSlot ⌝ }
 {
     value(line, 1, limits::SLOT) as usize
 }
 
-// The record that a `record` line states, from its words, whatever they are: it need not be in order.
+// The record that a `record` line states in words 2 to 11: state, SID, S, H, R, G and the four lengths. A word that is no number in its limit counts
+// as 0. The record need not be in order.
 pub fn session(line: &[u8]) -> Session
     ensures { λ r. ⌜ r ≡ statedOf (now (line .entry)) ⌝ }
 {
