@@ -11,9 +11,9 @@ use Rattle.start.specs.Start.{startOf}
 use Rattle.open.specs.Open.{openOf, openPacket}
 use Rattle.close.specs.Close.{closeOf, closePacket}
 use Rattle.shutdown.specs.Shutdown.{shutdownOf}
-use Rattle.bench.specs.declared.answer.Answer.{Answer}
-use Rattle.bench.specs.Crossing.{endFrom, wordsOf, over}
-use Rattle.bench.specs.Steady.{sendsOf, readsOf, takesOf}
+use Rattle.steady.specs.declared.answer.Answer.{Answer}
+use Rattle.crossing.specs.Crossing.{endFrom, wordsOf, over}
+use Rattle.steady.specs.Steady.{sendsOf, readsOf, takesOf}
 use Rattle.bench.specs.Call.{Left, leftBy, Leaves, benchOf, BenchPromise, startAnswer, openAnswer, closeAnswer, shutdownAnswer, takesLeave}
 
 -- ---- which call a number names

@@ -14,9 +14,9 @@ use Rattle.close.specs.declared.Closed.{Closed}
 use Rattle.close.specs.Close.{closeOf, closePacket}
 use Rattle.shutdown.specs.declared.Stopped.{Stopped}
 use Rattle.shutdown.specs.Shutdown.{shutdownOf}
-use Rattle.bench.specs.declared.answer.Answer.{Answer}
-use Rattle.bench.specs.Crossing.{endFrom, wordsOf, over}
-use Rattle.bench.specs.Steady.{answerOf, zeros, Sending, sendsOf, Reading, readsOf, Taking, takesOf}
+use Rattle.steady.specs.declared.answer.Answer.{Answer}
+use Rattle.crossing.specs.Crossing.{endFrom, wordsOf, over}
+use Rattle.steady.specs.Steady.{answerOf, zeros, Sending, sendsOf, Reading, readsOf, Taking, takesOf}
 
 -- ---- the answers of the calls that are made once; their sum is 0
 

@@ -9,12 +9,12 @@ ghost use Rattle.open.specs.Open.{openOf, openPacket};
 ghost use Rattle.close.specs.Close.{closeOf, closePacket};
 ghost use Rattle.shutdown.specs.Shutdown.{shutdownOf};
 ghost use Rattle.bench.specs.Call.{startAnswer, openAnswer, closeAnswer, shutdownAnswer, leftBy, Leaves, benchOf, BenchPromise};
-use crate::answer::Answer;
-use crate::crossing::end_of;
-use crate::crossing::put_end;
-use crate::steady::reads;
-use crate::steady::sends;
-use crate::steady::takes;
+use crossing::end_of;
+use crossing::put_end;
+use steady::answer::Answer;
+use steady::reads;
+use steady::sends;
+use steady::takes;
 use table::end::End;
 
 fn started(e: End) -> Answer
