@@ -16,10 +16,11 @@ use Rattle.text.specs.Lines.{lines, firstLine}
 use Rattle.text.proofs.Lines.{lines-on, lines-end, first-front}
 use Rattle.report.specs.Lines.{rowLimit, lineRow}
 use Rattle.table.specs.declared.end.End.{End}
-use Rattle.capture.specs.declared.fed.Fed.{Fed}
-use Rattle.capture.specs.Feed.{inputLimit, lineText, endAfter, endText, report}
-use Rattle.capture.specs.FeedParts.{lineFed}
-use Rattle.capture.proofs.Frames.{fed-line}
+use Rattle.fed.specs.declared.Fed.{Fed}
+use Rattle.fed.specs.Line.{lineText, endAfter}
+use Rattle.capture.specs.Feed.{inputLimit, endText, report}
+use Rattle.fed.specs.Parts.{lineFed}
+use Rattle.fed.proofs.Frames.{fed-line}
 
 -- the line that begins at a place, and the report on the lines from there on
 abbrev pub lineFrom : List ℕ → ℕ → List ℕ

@@ -13,7 +13,8 @@ use Rattle.text.specs.Hex.{digitValue, allDigits, fromHex, toHex}
 use Rattle.text.specs.Decimal.{digits, decimal}
 use Rattle.text.specs.Lines.{lines}
 use Rattle.report.specs.Rows.{sidText, frameRow, badText, endRow}
-use Rattle.capture.specs.Feed.{unreadFor, lineText, endAfter, report, feedText}
+use Rattle.fed.specs.Line.{unreadFor, lineText, endAfter}
+use Rattle.capture.specs.Feed.{report, feedText}
 use Rattle.capture.specs.Worked.{Example, examples}
 
 pub reported : map (λ (x : Example). feedText (x .input)) examples ≡ map (λ (x : Example). x .report) examples

@@ -11,8 +11,6 @@ use table::end::End;
 use table::end::Role;
 use table::storage;
 
-mod fed;
-
 // At most 65,536 bytes of the input (more is dropped).
 pub const INPUT: usize = 65536;
 

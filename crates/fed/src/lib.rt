@@ -2,8 +2,8 @@
 ghost use mathlib.Core.Path.{_≡_};
 ghost use Rattle.table.specs.Limits.{base};
 ghost use Rattle.take.specs.Take.{takeStorage};
-ghost use Rattle.capture.specs.Feed.{isFrame, unreadFor};
-ghost use Rattle.capture.specs.FeedParts.{frameFed, lineFed, lineStorage};
+ghost use Rattle.fed.specs.Line.{isFrame, unreadFor};
+ghost use Rattle.fed.specs.Parts.{frameFed, lineFed, lineStorage};
 use report::Line;
 use session::record::Session;
 use table::end::End;

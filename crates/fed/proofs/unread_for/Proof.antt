@@ -3,9 +3,9 @@ use mathlib.Core.Path.{sym, ap, _∙_}
 use borrow.Author.Needs.{needs}
 use Rattle.wire.specs.declared.header.Header.{Header}
 use Rattle.table.specs.Slots.{unreadOf}
-use Rattle.capture.proofs.Frames.{unread-short, unread-long}
-use Rattle.capture.proofs.fed.unread_for.Statement.{statement}
-use Rattle.capture.proofs.fed.unread_for.Tie as tie
+use Rattle.fed.proofs.Frames.{unread-short, unread-long}
+use Rattle.fed.proofs.unread_for.Statement.{statement}
+use Rattle.fed.proofs.unread_for.Tie as tie
 
 returns : tie.Need-returns
 returns c = sym (unread-short (c .before .before .args .e) (c .before .before .args .frame .now) (c .if1 .taken))

@@ -21,9 +21,9 @@ use Rattle.table.specs.Slots.{unreadOf}
 use Rattle.table.specs.Limits.{base}
 use Rattle.take.specs.declared.Taken.{Taken}
 use Rattle.take.specs.Take.{takeStorage}
-use Rattle.capture.specs.declared.fed.Fed.{Fed}
-use Rattle.capture.specs.Feed.{frameLimit, isFrame, taken, unreadFor, unreadAfter, frameText, lineText, endAfter}
-use Rattle.capture.specs.FeedParts.{frameFed, lineFed, lineStorage}
+use Rattle.fed.specs.declared.Fed.{Fed}
+use Rattle.fed.specs.Line.{frameLimit, isFrame, taken, unreadFor, unreadAfter, frameText, lineText, endAfter}
+use Rattle.fed.specs.Parts.{frameFed, lineFed, lineStorage}
 
 -- ---- a frame
 

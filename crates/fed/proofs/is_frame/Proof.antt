@@ -6,9 +6,9 @@ use lib.ListN.{length}
 use borrow.Author.Tests.{le-leb, lt-leb}
 use borrow.Author.Needs.{needs}
 use Rattle.text.specs.Hex.{isHex}
-use Rattle.capture.specs.Feed.{frameLimit}
-use Rattle.capture.proofs.fed.is_frame.Statement.{statement}
-use Rattle.capture.proofs.fed.is_frame.Tie as tie
+use Rattle.fed.specs.Line.{frameLimit}
+use Rattle.fed.proofs.is_frame.Statement.{statement}
+use Rattle.fed.proofs.is_frame.Tie as tie
 
 returns : tie.Need-returns
 returns c = let l = c .before .before .args .line .now in

@@ -4,10 +4,10 @@ use lib.ListN.{length}
 use borrow.Author.Needs.{needs}
 use Rattle.table.specs.Limits.{base}
 use Rattle.take.specs.Take.{takeOf}
-use Rattle.capture.specs.Feed.{taken}
-use Rattle.capture.proofs.Frames.{told}
-use Rattle.capture.proofs.fed.frame_fed.Statement.{statement}
-use Rattle.capture.proofs.fed.frame_fed.Tie as tie
+use Rattle.fed.specs.Line.{taken}
+use Rattle.fed.proofs.Frames.{told}
+use Rattle.fed.proofs.frame_fed.Statement.{statement}
+use Rattle.fed.proofs.frame_fed.Tie as tie
 
 take-requires : tie.Need-take-requires
 take-requires c κs = search needs

@@ -1,4 +1,4 @@
--- What the parts of feed's code promise each other. No public promise cites this file.
+-- What the code makes of a line, and of the storage. No contract of `feed` cites this file.
 use Prim.Native.Nat.{ℕ}
 use mathlib.Core.List.{List}
 use Rattle.cases.specs.Cases.{if}
@@ -7,8 +7,8 @@ use Rattle.report.specs.Lines.{badLine, lineOf}
 use Rattle.table.specs.declared.end.End.{End}
 use Rattle.table.specs.Limits.{base}
 use Rattle.take.specs.Take.{takeStorage}
-use Rattle.capture.specs.declared.fed.Fed.{Fed}
-use Rattle.capture.specs.Feed.{isFrame, taken, unreadAfter}
+use Rattle.fed.specs.declared.Fed.{Fed}
+use Rattle.fed.specs.Line.{isFrame, taken, unreadAfter}
 
 -- what the report tells of a frame, and the server after it
 abbrev pub frameFed : End → List ℕ → Fed

@@ -6,9 +6,9 @@ use lib.Seq.{length-take-le}
 use borrow.Author.Tests.{not-true, not-false}
 use borrow.Author.Needs.{needs}
 use Rattle.text.proofs.Bytes.{length-from}
-use Rattle.capture.proofs.Frames.{frame-length, fed-bad, stored-bad, fed-frame}
-use Rattle.capture.proofs.fed.one_line.Statement.{statement}
-use Rattle.capture.proofs.fed.one_line.Tie as tie
+use Rattle.fed.proofs.Frames.{frame-length, fed-bad, stored-bad, fed-frame}
+use Rattle.fed.proofs.one_line.Statement.{statement}
+use Rattle.fed.proofs.one_line.Tie as tie
 
 is-frame-requires : tie.Need-is-frame-requires
 is-frame-requires c κs = search needs
