@@ -1,3 +1,2 @@
-pub mod Differ
 pub mod Marks
 pub mod Seen

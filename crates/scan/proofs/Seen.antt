@@ -21,7 +21,7 @@ use Rattle.scan.specs.Look.{seenNothing, lookOf}
 use Rattle.session.proofs.Past.{past}
 use Rattle.table.proofs.Slots.{session-at}
 use Rattle.table.proofs.Made.{every-at, parts}
-use Rattle.scan.proofs.Differ.{differ-end, differ-free, differ-used}
+use Rattle.sids.proofs.Differ.{differ-end, differ-free, differ-used}
 use Rattle.scan.proofs.Marks.{Marked, marked-none, marked-free, marked-used, unmarked}
 
 pub record Seen (lim : Limits) (up : Bool) (xs : List Session) (sid slot free : ℕ) (marks : List Bool) (twice : Bool) (i : ℕ) : Type 0 where

@@ -2,12 +2,11 @@
 // free slot is the last one seen.
 ghost use mathlib.Core.Path.{_≡_};
 ghost use Rattle.table.specs.Limits.{base};
-ghost use Rattle.table.specs.Well.{sidsDiffer};
 ghost use Rattle.scan.specs.Look.{seenNothing, lookOf};
 use cases::either;
 use session::record::Session;
+use sids::sids_differ;
 use table::end::End;
-use table::end::is_of;
 
 // Whether the end is well made, the slot and the record of a SID, and the lowest free slot.
 pub struct Look {
@@ -27,30 +26,6 @@ fn nothing() -> Look
         session: Session::free(),
         free: 0,
     }
-}
-
-// SIDs in use differ: each slot is held against the later ones.
-fn sids_differ(e: End) -> bool
-    ensures { λ r. ⌜ r ≡ sidsDiffer (e .slots) ⌝ }
-{
-    let mut i = End::SLOTS;
-    while 0 < i {
-        i -= 1;
-        let x = e.slots[i];
-        let st = x.state;
-        if st.in_use() {
-            let id = x.sid;
-            let mut j = i + 1;
-            while j < End::SLOTS {
-                let y = e.slots[j];
-                if is_of(y, id) {
-                    return false;
-                }
-                j += 1;
-            }
-        }
-    }
-    true
 }
 
 // One look through the slots: whether the end is well made, and then the slot and record of the session with that SID (16 and a free record where

@@ -11,9 +11,9 @@ use Rattle.session.proofs.Past.{past}
 use Rattle.table.specs.Slots.{holds}
 use Rattle.table.specs.Well.{sidsDiffer}
 use Rattle.table.proofs.Slots.{long, holds-on, holds-end}
-use Rattle.scan.proofs.Differ.{differ-end, differ-free, differ-used, differ-clash}
-use Rattle.scan.proofs.sids_differ.Statement.{statement}
-use Rattle.scan.proofs.sids_differ.Tie as tie
+use Rattle.sids.proofs.Differ.{differ-end, differ-free, differ-used, differ-clash}
+use Rattle.sids.proofs.sids_differ.Statement.{statement}
+use Rattle.sids.proofs.sids_differ.Tie as tie
 
 abbrev Inv-loop2 : tie.InvT-loop2
 Inv-loop2 e i id j₀ j = (i < j) × (j ≤ 16) × (holds id (drop (i + 1) (e .slots)) ≡ holds id (drop j (e .slots)))
