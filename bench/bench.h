@@ -1,10 +1,10 @@
 // What bench/ calls, twice: `bench_call`, the proved archive's, and `c_call`, that of the C in this folder. A slice is a pointer and a length.
-// A record crosses as 162 words: role (0 client, 1 server), up, then ten for each slot: state, SID, S, H, R, G and the four lengths.
+// A record crosses as 178 words: role (0 client, 1 server), up, then eleven for each slot: state, SID, S, H, R, G, L and the four lengths.
 #include <stddef.h>
 #include <stdint.h>
 
-enum { ROLE = 0, UP = 1, SLOTS = 16, SLOT_WORDS = 10, WORDS = 2 + SLOTS * SLOT_WORDS };
-enum { STATE = 0, SID = 1, S = 2, H = 3, R = 4, G = 5, LENS = 6 };
+enum { ROLE = 0, UP = 1, SLOTS = 16, SLOT_WORDS = 11, WORDS = 2 + SLOTS * SLOT_WORDS };
+enum { STATE = 0, SID = 1, S = 2, H = 3, R = 4, G = 5, L = 6, LENS = 7 };
 enum { CLIENT = 0, SERVER = 1 };
 enum { CLOSED = 0, ESTABLISHED = 1, FIN_SENT = 2, FIN_RECEIVED = 3 };
 enum { SYN = 1, ACK = 2, FIN = 4, DATA = 8 };

@@ -1,6 +1,7 @@
 // compare STEPS: the proved calls beside the C, on random streams. Each step is one call on the record that the step before left, with both given the
 // same; numbers, values, the record and every lent byte must be the same after it. A stream begins with a fresh end or with any record at all.
-// It fails if the two differ, if some call never gave one of its numbers, or if a cell of take's table was never reached.
+// It fails if the two differ, if some call never gave one of its numbers, if a cell of take's table was never reached, or if a read was never of one
+// of its sorts: with an ACK, without one, and so on.
 #include "bench.h"
 #include <stdio.h>
 #include <stdlib.h>
@@ -58,7 +59,7 @@ static void any_session(int i) {
     w[STATE] = ESTABLISHED + any(3);
     w[SID] = sid_like();
     w[S] = counter(), w[H] = w[S] + any(5);
-    w[R] = counter(), w[G] = w[R] + any(5);
+    w[R] = counter(), w[G] = w[R] + any(5), w[L] = w[G] - any(2);
     for (int k = 0; k < 4; k++) w[LENS + k] = any(PAYLOAD + 1);
     for (int j = 0; j < i; j++)
         if (slot(j)[STATE] != CLOSED && slot(j)[SID] == w[SID]) memset(w, 0, SLOT_WORDS * sizeof *w);
@@ -67,13 +68,15 @@ static void any_session(int i) {
 // One thing that well made may forbid.
 static void damage_record(void) {
     uint32_t *w = slot(any(SLOTS)), *v = slot(any(SLOTS));
-    switch (any(6)) {
+    switch (any(8)) {
     case 0: record[UP] = 0; break;
     case 1: w[STATE] = any(4); break;
     case 2: w[SID] = v[SID]; break;
     case 3: w[LENS + any(4)] = any(65536); break;
     case 4: w[LENS + any(4)] = PAYLOAD + 1; break;
-    default: w[S + any(4)] = counter(); break;
+    case 5: w[L] = w[G] - 2 - any(2); break;
+    case 6: w[L] = w[G] + 1; break;
+    default: w[S + any(5)] = counter(); break;
     }
 }
 
@@ -133,13 +136,35 @@ static struct Side {
     uint64_t values[5];
 } ours, theirs;
 
-static uint64_t seen[CALLS][31], cells[2][4][9];
+// The sorts of reads: in ESTABLISHED with an ACK, without one, and without one where there wasn't room for it; in FIN RECEIVED; and refused for want of
+// ACK room alone.
+enum { WITH_ACK, WITHOUT, ROOMLESS, AFTER_FIN, WANTING, SORTS };
+
+static uint64_t seen[CALLS][31], cells[2][4][9], sorts[SORTS];
+
+// The words of a session in use.
+static const uint32_t *session(uint32_t sid) {
+    for (int i = 0; i < SLOTS; i++)
+        if (slot(i)[STATE] != CLOSED && slot(i)[SID] == sid) return slot(i);
+    return NULL;
+}
 
 // The state that a SID is in.
 static uint32_t state_of(uint32_t sid) {
-    for (int i = 0; i < SLOTS; i++)
-        if (slot(i)[STATE] != CLOSED && slot(i)[SID] == sid) return slot(i)[STATE];
-    return CLOSED;
+    const uint32_t *w = session(sid);
+    return w ? w[STATE] : CLOSED;
+}
+
+// Counts a read by its sorts, with the record as it was before.
+static void sort_read(uint32_t sid, size_t storage, size_t out, size_t ack, const uint64_t values[5]) {
+    const uint32_t *w = session(sid);
+    if (!w) return;
+    int done = values[0] == 0, acked = values[2] != 0, established = w[STATE] == ESTABLISHED;
+    sorts[WITH_ACK] += done && established && acked;
+    sorts[WITHOUT] += done && established && !acked;
+    sorts[ROOMLESS] += done && established && !acked && ack < HEADER;
+    sorts[AFTER_FIN] += done && w[STATE] == FIN_RECEIVED;
+    sorts[WANTING] += values[0] == 9 && storage >= STORAGE && out >= w[LENS + (w[G] - 3) % 4];
 }
 
 static size_t room(size_t usual) {
@@ -166,11 +191,12 @@ static void step(unsigned long n, uint32_t damage) {
         exit(1);
     }
     if (call == TAKE && ours.values[0] == 0) cells[record[ROLE]][state_of(ours.values[3])][ours.values[2]]++;
+    if (call == READ) sort_read(sid, storage, out, ack, ours.values);
     seen[call][ours.values[0]]++;
     memcpy(record, ours.record, sizeof record);
 }
 
-// ---- each call gives each of its numbers, and take does what each cell of its table says, at both ends
+// ---- each call gives each of its numbers, take does what each cell of its table says, at both ends, and reads are of each sort
 
 static const uint8_t numbers[CALLS][24] = {
     [START] = {0},
@@ -199,6 +225,10 @@ static int all_seen(void) {
             (unsigned long)e[DATA], (unsigned long)e[ACK], (unsigned long)e[FIN], (unsigned long)f[DATA], (unsigned long)f[ACK], (unsigned long)f[FIN]);
         good &= e[DATA] && e[ACK] && e[FIN] && f[DATA] && f[ACK] && f[FIN];
     }
+    printf("  reads: ESTABLISHED with an ACK %lu, without %lu, of these with no room for one %lu, FIN RECEIVED %lu, refused for ACK room alone %lu\n",
+        (unsigned long)sorts[WITH_ACK], (unsigned long)sorts[WITHOUT], (unsigned long)sorts[ROOMLESS], (unsigned long)sorts[AFTER_FIN],
+        (unsigned long)sorts[WANTING]);
+    for (int i = 0; i < SORTS; i++) good &= sorts[i] > 0;
     return good;
 }
 
@@ -219,6 +249,6 @@ int main(int argc, char **argv) {
     }
     printf("%lu calls, the same numbers, values, records and bytes; how often each number came:\n", n);
     if (all_seen()) return 0;
-    printf("a number never came, or a cell was never reached\n");
+    printf("a number or a sort of read never came, or a cell was never reached\n");
     return 1;
 }

@@ -15,10 +15,13 @@
 #define measured bench_call
 #endif
 
-// A row: a call, so many sessions in the lowest slots, payloads of so many bytes, SIDs 0, step, 2 step, ..
+// A row: a call, so many sessions in the lowest slots, payloads of so many bytes, SIDs 0, step, 2 step, .., so many calls for each session, and G that
+// far past L before the first.
+// A session's four reads begin with L = G, so that the second and the fourth emit an ACK and the others none: a figure for `read` is the mean of the
+// two sorts, as in any long run of reads. Each sort alone is had with one read for each session: with G 1 past L all emit an ACK, with L = G none does.
 typedef struct {
     int call;
-    unsigned sessions, payload, step;
+    unsigned sessions, payload, step, each, untold;
 } Row;
 
 static uint32_t record[WORDS];
@@ -37,7 +40,7 @@ static void prepare(Row r) {
     for (unsigned i = 0; i < r.sessions; i++) {
         uint32_t *w = record + 2 + SLOT_WORDS * i, life = 4000000000u * i + 77;
         w[STATE] = ESTABLISHED, w[SID] = i * r.step;
-        w[S] = life, w[H] = life + 4, w[R] = 3 * life, w[G] = w[R] + (r.call == READ ? 0 : 4);
+        w[S] = life, w[H] = life + 4, w[R] = 3 * life, w[G] = w[R] + (r.call == READ ? 0 : 4), w[L] = w[G] - r.untold;
         for (int k = 0; k < 4; k++) w[LENS + k] = r.payload;
     }
     stream = 0;
@@ -53,9 +56,21 @@ static void prepare(Row r) {
     }
 }
 
+static const char *name(Row r) {
+    static const char *const names[CALLS] = {[SEND] = "send", [READ] = "read", [TAKE] = "take"};
+    if (r.call == READ && r.each == 1) return r.untold ? "read-with-ACK" : "read-without-ACK";
+    return names[r.call];
+}
+
+// The length of the last read's ACK.
+static uint64_t last_ack(Row r) {
+    return r.call == READ && (r.untold + r.each) % 2 == 0 ? HEADER : 0;
+}
+
+static uint64_t values[5];
+
 static uint64_t make(Row r, size_t calls) {
     static uint32_t lent[WORDS];
-    uint64_t values[5];
     uint16_t last = (r.sessions - 1) * r.step;
     memcpy(lent, record, sizeof lent);
     const uint8_t *given = r.call == TAKE ? bytes : payload;
@@ -91,15 +106,17 @@ static double least(Row r, size_t calls) {
 }
 
 static void measure(Row r, int timed) {
-    static const char *const names[CALLS] = {[SEND] = "send", [READ] = "read", [TAKE] = "take"};
-    size_t calls = 4 * r.sessions;
+    size_t calls = r.each * r.sessions;
     prepare(r);
-    uint64_t none = make(r, 0), all = make(r, calls);
-    if (none != 0 || all != calls * (r.payload + (r.call == READ ? 0 : HEADER))) {
-        printf("%s of %u sessions, %u bytes: not every call was done\n", names[r.call], r.sessions, r.payload);
+    uint64_t none = make(r, 0);
+    // Set before, since the copy emits no ACK and leaves the values alone.
+    if (r.call == READ) values[2] = last_ack(r);
+    uint64_t all = make(r, calls);
+    if (none != 0 || all != calls * (r.payload + (r.call == READ ? 0 : HEADER)) || (r.call == READ && values[2] != last_ack(r))) {
+        printf("%s of %u sessions, %u bytes: not every call was done, or the last read's ACK isn't as it should be\n", name(r), r.sessions, r.payload);
         exit(1);
     }
-    fprintf(stderr, "row %s %u %u %u %zu\n", names[r.call], r.step, r.sessions, r.payload, calls);
+    fprintf(stderr, "row %s %u %u %u %zu\n", name(r), r.step, r.sessions, r.payload, calls);
     if (timed) {
         fprintf(stderr, "ns %.1f\n", (least(r, calls) - least(r, 0)) / calls);
         return;
@@ -117,7 +134,8 @@ int main(int argc, char **argv) {
     static const unsigned sessions[] = {1, 4, 16}, payloads[] = {0, 64, 512};
     for (int c = 0; c < 3; c++)
         for (int k = 0; k < 3; k++)
-            for (int p = 0; p < 3; p++) measure((Row){calls[c], sessions[k], payloads[p], 1}, timed);
-    for (int k = 1; k < 3; k++) measure((Row){TAKE, sessions[k], 0, 64}, timed);
+            for (int p = 0; p < 3; p++) measure((Row){calls[c], sessions[k], payloads[p], 1, 4, 0}, timed);
+    for (int k = 1; k < 3; k++) measure((Row){TAKE, sessions[k], 0, 64, 4, 0}, timed);
+    for (unsigned untold = 0; untold < 2; untold++) measure((Row){READ, 16, 0, 1, 1, untold}, timed);
     return 0;
 }

@@ -1,5 +1,6 @@
-// The seven calls as a C programmer would write them from document 01: the record behind a pointer and changed in place, every check in the
-// document's order. -DUNCHECKED=1 leaves out the one that the record is well made. -DWINDOW=5 is a wrong end, which the comparison must notice.
+// The seven calls as a C programmer would write them from document 01, with request (i): the record behind a pointer and changed in place, every
+// check in the document's order. -DUNCHECKED=1 leaves out the one that the record is well made. -DWINDOW=5 and -DNOTICE=1 are wrong ends, which the
+// comparison must notice.
 #include "bench.h"
 #include <stdbool.h>
 #include <string.h>
@@ -8,10 +9,15 @@
 #define WINDOW 4
 #endif
 
+// A read announces a G that is so far past L, or farther.
+#ifndef NOTICE
+#define NOTICE 2
+#endif
+
 typedef struct {
     uint8_t state;
     uint16_t sid;
-    uint32_t s, h, r, g;
+    uint32_t s, h, r, g, l;
     uint16_t lens[4];
 } Session;
 
@@ -35,10 +41,10 @@ typedef struct {
 // ---- the record
 
 static bool in_order(const Session *x) {
-    const uint16_t *l = x->lens;
+    const uint16_t *n = x->lens;
     if (x->state != CLOSED)
-        return x->h - x->s <= WINDOW && x->g - x->r <= WINDOW && l[0] <= PAYLOAD && l[1] <= PAYLOAD && l[2] <= PAYLOAD && l[3] <= PAYLOAD;
-    return !x->sid && !x->s && !x->h && !x->r && !x->g && !l[0] && !l[1] && !l[2] && !l[3];
+        return x->h - x->s <= WINDOW && x->g - x->r <= WINDOW && x->g - x->l <= 1 && n[0] <= PAYLOAD && n[1] <= PAYLOAD && n[2] <= PAYLOAD && n[3] <= PAYLOAD;
+    return !x->sid && !x->s && !x->h && !x->r && !x->g && !x->l && !n[0] && !n[1] && !n[2] && !n[3];
 }
 
 #ifndef UNCHECKED
@@ -71,7 +77,7 @@ static Session *free_slot(End *e) {
 }
 
 static Session fresh(uint16_t sid) {
-    return (Session){.state = ESTABLISHED, .sid = sid, .h = WINDOW, .g = WINDOW};
+    return (Session){.state = ESTABLISHED, .sid = sid, .h = WINDOW, .g = WINDOW, .l = WINDOW};
 }
 
 static void down(End *e) {
@@ -112,6 +118,12 @@ static void put_header(uint8_t *p, uint8_t flags, uint16_t sid, uint32_t length,
     put32(p + 12, wndw);
 }
 
+// A packet of a session: its WNDW is G, and so becomes L.
+static void emit(Session *x, uint8_t *p, uint8_t flags, uint32_t length) {
+    put_header(p, flags, x->sid, length, x->s, x->g);
+    x->l = x->g;
+}
+
 // ---- the calls
 
 static End start(uint8_t role) {
@@ -136,7 +148,7 @@ static Answer open(End *e, LENT(packet)) {
     uint16_t sid = 0;
     while (find(e, sid)) sid++;
     *x = fresh(sid);
-    put_header(packet, SYN, sid, HEADER, 0, WINDOW);
+    emit(x, packet, SYN, HEADER);
     return (Answer){.sid = sid, .length = HEADER};
 }
 
@@ -150,7 +162,7 @@ static Answer send(End *e, uint16_t sid, GIVEN(payload), LENT(packet)) {
     if (x->s == x->h) return refused(7);
     if (packet_n < HEADER + payload_n) return refused(9);
     x->s++;
-    put_header(packet, DATA, sid, HEADER + payload_n, x->s, x->g);
+    emit(x, packet, DATA, HEADER + payload_n);
     memcpy(packet + HEADER, payload, payload_n);
     return (Answer){.length = HEADER + payload_n};
 }
@@ -163,11 +175,13 @@ static Answer receive(End *e, uint16_t sid, GIVEN(storage), LENT(payload), LENT(
     if (x->state == FIN_SENT) return refused(5);
     if (x->r + 4 == x->g) return refused(x->state == ESTABLISHED ? 8 : 11);
     uint32_t oldest = x->g - 3, n = x->lens[oldest % 4];
-    if (payload_n < n || (x->state == ESTABLISHED && ack_n < HEADER) || storage_n < STORAGE) return refused(9);
+    bool announces = x->state == ESTABLISHED && x->g + 1 - x->l >= NOTICE;
+    if (payload_n < n || (announces && ack_n < HEADER) || storage_n < STORAGE) return refused(9);
     x->g++;
     memcpy(payload, storage + place(e, x, oldest), n);
-    if (x->state != ESTABLISHED) return (Answer){.length = n};
-    put_header(ack, ACK, sid, HEADER, x->s, x->g);
+    if (x->state == FIN_RECEIVED) x->l = x->g;
+    if (!announces) return (Answer){.length = n};
+    emit(x, ack, ACK, HEADER);
     return (Answer){.length = n, .ack = HEADER};
 }
 
@@ -178,7 +192,7 @@ static Answer finish(End *e, uint16_t sid, LENT(packet)) {
     if (!x) return refused(4);
     if (x->state == FIN_SENT) return refused(5);
     if (packet_n < HEADER) return refused(9);
-    put_header(packet, FIN, sid, HEADER, x->s, x->g);
+    emit(x, packet, FIN, HEADER);
     if (x->state == ESTABLISHED)
         x->state = FIN_SENT;
     else
@@ -255,7 +269,7 @@ static End end_of(const uint32_t *record) {
     for (int i = 0; i < SLOTS; i++) {
         const uint32_t *w = record + 2 + SLOT_WORDS * i;
         Session *x = &e.slots[i];
-        *x = (Session){.state = w[STATE] < 3 ? w[STATE] : 3, .sid = w[SID], .s = w[S], .h = w[H], .r = w[R], .g = w[G]};
+        *x = (Session){.state = w[STATE] < 3 ? w[STATE] : 3, .sid = w[SID], .s = w[S], .h = w[H], .r = w[R], .g = w[G], .l = w[L]};
         for (int k = 0; k < 4; k++) x->lens[k] = w[LENS + k];
     }
     return e;
@@ -267,7 +281,7 @@ static void put_end(uint32_t *record, const End *e) {
     for (int i = 0; i < SLOTS; i++) {
         uint32_t *w = record + 2 + SLOT_WORDS * i;
         const Session *x = &e->slots[i];
-        w[STATE] = x->state, w[SID] = x->sid, w[S] = x->s, w[H] = x->h, w[R] = x->r, w[G] = x->g;
+        w[STATE] = x->state, w[SID] = x->sid, w[S] = x->s, w[H] = x->h, w[R] = x->r, w[G] = x->g, w[L] = x->l;
         for (int k = 0; k < 4; k++) w[LENS + k] = x->lens[k];
     }
 }

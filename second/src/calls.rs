@@ -79,13 +79,14 @@ fn parse(line: &[u8]) -> Option<Line> {
         (b"shutdown", []) => Line::Shutdown,
         (b"take", [b]) => Line::Take { bytes: bytes(b)? },
         (b"lend", [n]) => Line::Lend { count: number(n, STORAGE as u64)? as usize },
-        (b"record", [at, state, s, counters @ ..]) if counters.len() == 8 => {
+        (b"record", [at, state, s, counters @ ..]) if counters.len() == 9 => {
             let mut slot = Slot { state: number(state, 3)? as u8, sid: sid(s)?, ..Slot::default() };
             slot.s = counter(counters[0])?;
             slot.h = counter(counters[1])?;
             slot.r = counter(counters[2])?;
             slot.g = counter(counters[3])?;
-            for (length, word) in slot.lengths.iter_mut().zip(&counters[4..]) {
+            slot.l = counter(counters[4])?;
+            for (length, word) in slot.lengths.iter_mut().zip(&counters[5..]) {
                 *length = number(word, 65_535)? as u16;
             }
             Line::Record { at: number(at, SLOTS as u64 - 1)? as usize, slot }
@@ -201,8 +202,8 @@ impl Calls {
         let mut text = format!("{role} {}", u8::from(self.end.up));
         for (i, slot) in self.end.slots.iter().enumerate().filter(|(_, slot)| !slot.is_all_zeros())
         {
-            let Slot { state, sid, s, h, r, g, lengths: [l0, l1, l2, l3] } = slot;
-            text += &format!(" {i}:{state}:{sid}:{s}:{h}:{r}:{g}:{l0}:{l1}:{l2}:{l3}");
+            let Slot { state, sid, s, h, r, g, l, lengths: [l0, l1, l2, l3] } = slot;
+            text += &format!(" {i}:{state}:{sid}:{s}:{h}:{r}:{g}:{l}:{l0}:{l1}:{l2}:{l3}");
         }
         text
     }

@@ -126,7 +126,7 @@ impl End {
             Ask::PacketRoom => given.room >= HEADER + given.payload,
             Ask::ReadRooms => {
                 given.room >= usize::from(slot.lengths[slot.oldest()])
-                    && (slot.state != ESTABLISHED || given.ack_room >= HEADER)
+                    && (!slot.read_emits_ack() || given.ack_room >= HEADER)
             }
             Ask::Storage => self.lent >= STORAGE,
             Ask::WholeHeader => given.header.is_some(),

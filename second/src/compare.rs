@@ -1,11 +1,12 @@
 //! The comparer: gives the same inputs to the other implementation and to this one, and compares
 //! the answers byte for byte. A difference is made small and shown.
 
+mod cases;
 mod parting;
 mod run;
 mod show;
 mod shrink;
-mod tally;
+pub mod tally;
 
 use crate::make::{self, edges, pieces, Piece};
 use crate::{calls, feed};
@@ -134,7 +135,7 @@ fn first_difference(
     found.into_inner().expect("no panic").map(|(_, case, parting)| (case, parting))
 }
 
-/// Compares everything; true if there is no difference and every listed answer was seen.
+/// Compares everything; true if there is no difference and every listed answer and case was seen.
 pub fn compare(
     seed: u64,
     scripts: usize,
@@ -171,9 +172,9 @@ pub fn compare(
     }
 
     let add_calls = |case: &Case| {
-        let lines = case.groups.concat();
-        let answers = calls::answers(&lines.concat());
-        tally.lock().expect("no panic").add_calls(&lines, &answers);
+        let mut one = Tally::default();
+        one.add_calls(&case.groups.concat());
+        tally.lock().expect("no panic").join(one);
     };
     let add_feed = |case: &Case| {
         let report = feed::report(&case.groups.concat().concat());

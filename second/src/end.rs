@@ -1,9 +1,10 @@
-//! The calls of document 01 on one end, for `calls`: they change its record and the lent storage in
-//! place. What they ask before they change anything is in `checks.rs`.
+//! The calls of document 01 on one end, with request (i) of document 02, for `calls`: they change
+//! its record and the lent storage in place. What they ask before they change anything is in
+//! `checks.rs`.
 
 use crate::checks::{Given, CLOSE, OPEN, READ, SEND, SHUTDOWN, TAKE, TAKE_OTHER, TAKE_SYN};
 use crate::packet::{packet, Header, ACK, DATA, FIN, HEADER, PAYLOAD, SYN};
-use crate::record::{place, End, Slot, ESTABLISHED, FIN_RECEIVED, FIN_SENT, PLACES, WINDOW};
+use crate::record::{place, End, Slot, ESTABLISHED, FIN_RECEIVED, FIN_SENT, PLACES};
 
 /// What a call gives back. All but the number is zero on a refusal (but for 10's `missing`).
 #[derive(Default, Debug, PartialEq)]
@@ -39,7 +40,7 @@ impl End {
         let sid = (0..=u16::MAX).find(|&sid| self.find(sid).is_none()).expect("sixteen at most");
         let free = self.free_slot().expect("checked");
         self.slots[free] = Slot::fresh(sid);
-        let front = put(room, &packet(SYN, sid, 0, WINDOW, &[]));
+        let front = emit(&mut self.slots[free], SYN, &[], room);
         Answer { sid, front, ..Answer::default() }
     }
 
@@ -52,7 +53,7 @@ impl End {
         let i = self.find(sid).expect("checked");
         let slot = &mut self.slots[i];
         slot.s = slot.s.wrapping_add(1);
-        let front = put(room, &packet(DATA, sid, slot.s, slot.g, payload));
+        let front = emit(slot, DATA, payload, room);
         Answer { front, ..Answer::default() }
     }
 
@@ -68,11 +69,13 @@ impl End {
         let begin = PAYLOAD * (PLACES * i + oldest);
         let length = usize::from(slot.lengths[oldest]);
         let front = put(room, &self.storage[begin..begin + length]);
+        let emits_ack = slot.read_emits_ack();
         slot.g = slot.g.wrapping_add(1);
-        let ack = match slot.state {
-            ESTABLISHED => put(ack_room, &packet(ACK, sid, slot.s, slot.g, &[])),
-            _ => 0,
-        };
+        if slot.state == FIN_RECEIVED {
+            // Nobody is left to tell, so nothing stays untold.
+            slot.l = slot.g;
+        }
+        let ack = if emits_ack { emit(slot, ACK, &[], ack_room) } else { 0 };
         Answer { front, ack, ..Answer::default() }
     }
 
@@ -83,7 +86,7 @@ impl End {
         }
         let i = self.find(sid).expect("checked");
         let slot = &mut self.slots[i];
-        let front = put(room, &packet(FIN, sid, slot.s, slot.g, &[]));
+        let front = emit(slot, FIN, &[], room);
         match slot.state {
             ESTABLISHED => slot.state = FIN_SENT,
             _ => *slot = Slot::default(),
@@ -150,6 +153,12 @@ impl End {
             _ => {}
         }
     }
+}
+
+/// Emits a packet with the session's S and G. Its WNDW is G, and so becomes L.
+fn emit(slot: &mut Slot, flags: u8, payload: &[u8], room: &mut [u8]) -> usize {
+    slot.l = slot.g;
+    put(room, &packet(flags, slot.sid, slot.s, slot.g, payload))
 }
 
 /// Fills the front of a room and says how much.

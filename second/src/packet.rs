@@ -77,7 +77,7 @@ pub fn unhex(digits: &[u8]) -> Option<Vec<u8>> {
         b'a'..=b'f' => Some(digit - b'a' + 10),
         _ => None,
     };
-    if digits.len() % 2 != 0 {
+    if digits.len() % 2 == 1 {
         return None;
     }
     digits.chunks(2).map(|two| Some(16 * value(two[0])? + value(two[1])?)).collect()

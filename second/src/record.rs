@@ -1,5 +1,6 @@
-//! The records of document 01, for `calls`: a session's slot, and an end with its sixteen slots
-//! and the lent storage. Here is what a record tells by itself; the calls are in `end.rs`.
+//! The records of document 01 with the L of request (i), for `calls`: a session's slot, and an end
+//! with its sixteen slots and the lent storage. Here is what a record tells by itself; the calls are
+//! in `end.rs`.
 
 use crate::packet::PAYLOAD;
 
@@ -7,6 +8,8 @@ pub const SLOTS: usize = 16;
 pub const PLACES: usize = 4;
 pub const STORAGE: usize = SLOTS * PLACES * PAYLOAD;
 pub const WINDOW: u32 = 4;
+/// A read announces a G that is so far past L, or farther.
+pub const NOTICE: u32 = 2;
 
 pub const FREE: u8 = 0;
 pub const ESTABLISHED: u8 = 1;
@@ -21,12 +24,14 @@ pub struct Slot {
     pub h: u32,
     pub r: u32,
     pub g: u32,
+    /// LastHighWaterForRecv: the WNDW of the last packet emitted.
+    pub l: u32,
     pub lengths: [u16; PLACES],
 }
 
 impl Slot {
     pub fn fresh(sid: u16) -> Slot {
-        Slot { state: ESTABLISHED, sid, h: WINDOW, g: WINDOW, ..Slot::default() }
+        Slot { state: ESTABLISHED, sid, h: WINDOW, g: WINDOW, l: WINDOW, ..Slot::default() }
     }
 
     pub fn is_all_zeros(&self) -> bool {
@@ -38,6 +43,16 @@ impl Slot {
             ESTABLISHED | FIN_RECEIVED => self.r.wrapping_add(WINDOW).wrapping_sub(self.g),
             _ => 0,
         }
+    }
+
+    /// G less L: what reads have freed since the last packet told the peer.
+    pub fn untold(&self) -> u32 {
+        self.g.wrapping_sub(self.l)
+    }
+
+    /// Whether the next read, which makes G larger by 1, emits an ACK.
+    pub fn read_emits_ack(&self) -> bool {
+        self.state == ESTABLISHED && self.untold().wrapping_add(1) >= NOTICE
     }
 
     /// The place of the oldest unread payload.
@@ -92,6 +107,7 @@ impl End {
             let good = self.up
                 && slot.h.wrapping_sub(slot.s) <= WINDOW
                 && slot.g.wrapping_sub(slot.r) <= WINDOW
+                && slot.untold() <= 1
                 && slot.lengths.iter().all(|&length| usize::from(length) <= PAYLOAD);
             let twin =
                 self.slots[..i].iter().any(|other| other.state != FREE && other.sid == slot.sid);

@@ -1,6 +1,10 @@
 //! Tests worked out from document 01: its bench values, its listing, and a few lines of `calls`.
+//! Those of document 02's request (i) are in `tests/notices.rs`.
+
+mod notices;
 
 use crate::calls::{answers, Calls};
+use crate::compare::tally::Tally;
 use crate::feed::report;
 use crate::make::edges::{LISTING, LISTING_REPORT};
 use crate::make::{capture, script};
@@ -28,7 +32,7 @@ fn listing() {
 
 #[test]
 fn bench_values() {
-    let end = server_with(Slot { state: ESTABLISHED, sid: 5, h: 4, g: 4, ..Slot::default() });
+    let end = server_with(Slot::fresh(5));
     let ack = packet(ACK, 5, 0, 4, &[]);
     let data = packet(DATA, 5, 1, 4, &[7; 513]);
     assert_eq!(number(&end, ack.clone(), |h| h.flags = 0x06), 21);
@@ -44,6 +48,7 @@ fn bench_values() {
         s: 0xffff_ffff,
         h: 3,
         g: 4,
+        l: 4,
         ..Slot::default()
     });
     let ack = packet(ACK, 5, 0, 3, &[]);
@@ -60,6 +65,7 @@ fn bench_values() {
         h: 4,
         r: 0xffff_fffe,
         g: 2,
+        l: 2,
         ..Slot::default()
     });
     let ack = packet(ACK, 5, 2, 4, &[]);
@@ -70,9 +76,17 @@ fn bench_values() {
     assert_eq!((none.number, none.missing), (10, 16));
 }
 
+/// Gives lines to a `calls`, each with the answer that it must have.
+fn talk(lines: &[(&str, &str)]) {
+    let mut calls = Calls::new();
+    for (line, answer) in lines {
+        assert_eq!(calls.answer(line.as_bytes()), *answer, "{line}");
+    }
+}
+
 #[test]
 fn lines_and_their_answers() {
-    let talk = [
+    talk(&[
         ("open 16", "1 0 -"),
         ("start client", "0"),
         ("open 15", "9 0 -"),
@@ -82,22 +96,18 @@ fn lines_and_their_answers() {
         ("take 53080000120000000100000004000000abcdef", "0 18 8 0 0"),
         ("take 53080000120000000200000004000000ab", "10 0 0 0 1"),
         ("read 0 1 16", "9 - -"),
-        ("read 0 2 16", "0 abcd 53020000100000000100000005000000"),
+        ("read 0 2 16", "0 abcd -"),
         ("read 0 2 16", "8 - -"),
         ("peek 512 3", "abcd00"),
         ("close 0 16", "0 53040000100000000100000005000000"),
         ("close 0 16", "5 -"),
-        ("show", "client 1 0:2:0:1:4:1:5:0:2:0:0"),
+        ("show", "client 1 0:2:0:1:4:1:5:5:0:2:0:0"),
         ("take 53040000100000000100000005000000", "0 16 4 0 0"),
         ("show", "client 1"),
-        ("record 3 0 0 0 0 0 0 0 0 0 1", "ok"),
+        ("record 3 0 0 0 0 0 0 0 0 0 0 1", "ok"),
         ("shutdown", "12"),
         ("shutdown ", "bad"),
-    ];
-    let mut calls = Calls::new();
-    for (line, answer) in talk {
-        assert_eq!(calls.answer(line.as_bytes()), answer, "{line}");
-    }
+    ]);
     assert_eq!(answers(b"\nshow"), b"bad\nclient 0\n");
 }
 
@@ -137,4 +147,16 @@ fn scripts_begin_alike_and_hold_whole_lines() {
             assert_eq!(line.iter().position(|&byte| byte == b'\n'), Some(line.len() - 1));
         }
     }
+}
+
+/// Four hundred scripts meet every answer of every call, and every case.
+#[test]
+fn scripts_reach_everything() {
+    let mut tally = Tally::default();
+    for number in 0..400 {
+        tally.add_calls(&script(3, number));
+    }
+    let never = tally.never_seen();
+    let never: Vec<&String> = never.iter().filter(|name| !name.starts_with("feed ")).collect();
+    assert!(never.is_empty(), "never seen: {never:?}");
 }

@@ -15,7 +15,7 @@ use Rattle.session.proofs.Past.{past}
 use Rattle.table.specs.declared.end.Role.{Role}
 use Rattle.table.specs.declared.end.End.{End}
 use Rattle.table.specs.End.{slotCount, startOf, putOf}
-use Rattle.crossing.specs.Crossing.{wordAt, shortOf, lensAt, roleOf, stateOf, slotAt, sessionFrom, slotsFrom, endFrom}
+use Rattle.crossing.specs.Crossing.{wordAt, shortOf, lensAt, roleOf, stateOf, slotWords, slotAt, sessionFrom, slotsFrom, endFrom}
 use Rattle.crossing.specs.Crossing.{roleWord, upWord, stateWord, sessionWords, slotsWords, wordsOf, over}
 
 -- ---- an end from words, slot by slot
@@ -54,11 +54,12 @@ pub lens-made : (w : List ℕ) (at a b c d : ℕ) → a ≡ shortOf (wordAt w at
     → d ≡ shortOf (wordAt w (at + 3)) → a ∷ b ∷ c ∷ d ∷ [] ≡ lensAt w at
 lens-made w at a b c d p q r s = rw (p, q, r, s)
 
-pub session-made : (w : List ℕ) (i : ℕ) (x : Session) (st : State) (sid s h r g : ℕ) (lens : List ℕ) → x ≡ recordOf st sid s h r g lens
+pub session-made : (w : List ℕ) (i : ℕ) (x : Session) (st : State) (sid s h r g l : ℕ) (lens : List ℕ) → x ≡ recordOf st sid s h r g l lens
     → st ≡ stateOf (wordAt w (slotAt i)) → sid ≡ shortOf (wordAt w (slotAt i + 1)) → s ≡ wordAt w (slotAt i + 2) → h ≡ wordAt w (slotAt i + 3)
-    → r ≡ wordAt w (slotAt i + 4) → g ≡ wordAt w (slotAt i + 5) → lens ≡ lensAt w (slotAt i + 6) → x ≡ sessionFrom w i
+    → r ≡ wordAt w (slotAt i + 4) → g ≡ wordAt w (slotAt i + 5) → l ≡ wordAt w (slotAt i + 6) → lens ≡ lensAt w (slotAt i + 7)
+    → x ≡ sessionFrom w i
 unfolding sessionFrom
-session-made w i x st sid s h r g lens p a b c d e f l = p ∙ rw (a, b, c, d, e, f, l)
+session-made w i x st sid s h r g l lens p a b c d e f k n = p ∙ rw (a, b, c, d, e, f, k, n)
 
 -- ---- words put one by one
 
@@ -84,7 +85,7 @@ sets-append w i (x ∷ a) b =
 -- a record's words, each as it was found
 pub words-made : (x : Session) (st sid a b c d : ℕ) → st ≡ stateWord (x .state) → sid ≡ x .sid → a ≡ getD (x .lens) 0 0 → b ≡ getD (x .lens) 1 0
     → c ≡ getD (x .lens) 2 0 → d ≡ getD (x .lens) 3 0
-    → st ∷ sid ∷ x .s ∷ x .h ∷ x .r ∷ x .g ∷ a ∷ b ∷ c ∷ d ∷ [] ≡ sessionWords x
+    → st ∷ sid ∷ x .s ∷ x .h ∷ x .r ∷ x .g ∷ x .l ∷ a ∷ b ∷ c ∷ d ∷ [] ≡ sessionWords x
 words-made x st sid a b c d p q r s t u = rw (p, q, r, s, t, u)
 
 -- the same put, from word k on
@@ -110,7 +111,7 @@ slots-step : (xs : List Session) (w : List ℕ) (i : ℕ) → i < length xs
 unfolding slotsWords
 slots-step xs w i h =
     let x = getD xs i past in
-    let n : slotAt i + 10 ≡ slotAt (i + 1) = omega arith in
+    let n : slotAt i + slotWords ≡ slotAt (i + 1) = omega arith in
     let m : suc i ≡ i + 1 = omega arith in
     rw (drop-cons xs i past h) (sym (sets-append w (slotAt i) (sessionWords x) (slotsWords (drop (suc i) xs)))
     ∙ ap (λ (j : ℕ). sets (sets w (slotAt i) (sessionWords x)) j (slotsWords (drop (suc i) xs))) n

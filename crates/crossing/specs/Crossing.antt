@@ -1,4 +1,4 @@
--- An end as words: role, up, then ten words for each slot: state, SID, S, H, R, G and the four lengths.
+-- An end as words: role, up, then eleven words for each slot: state, SID, S, H, R, G, L and the four lengths.
 use Prim.Native.Nat.{ℕ, zero, suc, _+_, _*_, _%_}
 use mathlib.Core.Bool.{Bool, not}
 use mathlib.Core.List.{List, [], _∷_, _++_}
@@ -34,15 +34,18 @@ stateOf x = if (eqb x 0) Closed (if (eqb x 1) Established (if (eqb x 2) FinSent 
 abbrev pub lensAt : List ℕ → ℕ → List ℕ
 lensAt w at = shortOf (wordAt w at) ∷ shortOf (wordAt w (at + 1)) ∷ shortOf (wordAt w (at + 2)) ∷ shortOf (wordAt w (at + 3)) ∷ []
 
--- where a slot's words begin
-abbrev pub slotAt : ℕ → ℕ
-slotAt i = 2 + 10 * i
+-- how many words a slot has, and where they begin
+abbrev pub slotWords : ℕ
+slotWords = 11
 
--- the record in the ten words from there on
+abbrev pub slotAt : ℕ → ℕ
+slotAt i = 2 + slotWords * i
+
+-- the record in the words from there on
 abbrev pub recordAt : List ℕ → ℕ → Session
 recordAt w at =
     recordOf (stateOf (wordAt w at)) (shortOf (wordAt w (at + 1))) (wordAt w (at + 2)) (wordAt w (at + 3)) (wordAt w (at + 4)) (wordAt w (at + 5))
-    (lensAt w (at + 6))
+    (wordAt w (at + 6)) (lensAt w (at + 7))
 
 unfoldable pub sessionFrom : List ℕ → ℕ → Session
 sessionFrom w i = recordAt w (slotAt i)
@@ -72,7 +75,7 @@ stateWord FinReceived = 3
 
 abbrev pub sessionWords : Session → List ℕ
 sessionWords x =
-    stateWord (x .state) ∷ x .sid ∷ x .s ∷ x .h ∷ x .r ∷ x .g
+    stateWord (x .state) ∷ x .sid ∷ x .s ∷ x .h ∷ x .r ∷ x .g ∷ x .l
     ∷ getD (x .lens) 0 0 ∷ getD (x .lens) 1 0 ∷ getD (x .lens) 2 0 ∷ getD (x .lens) 3 0 ∷ []
 
 unfoldable pub slotsWords : List Session → List ℕ

@@ -1,4 +1,4 @@
-// An end as words: role, up, then ten words for each slot: state, SID, S, H, R, G and the four lengths. A word too wide for its field is cut,
+// An end as words: role, up, then eleven words for each slot: state, SID, S, H, R, G, L and the four lengths. A word too wide for its field is cut,
 // a word that isn't there is 0.
 ghost use Prim.Native.Nat.{_<_};
 ghost use mathlib.Core.Path.{_≡_};
@@ -12,7 +12,7 @@ use session::record::State;
 use table::end::End;
 use table::end::Role;
 
-const SLOT: usize = 10;
+const SLOT: usize = 11;
 
 // The word at an index.
 fn word(w: &[u32], i: usize) -> u32
@@ -71,7 +71,8 @@ fn session_of(w: &[u32], i: usize) -> Session
         word(w, at + 3),
         word(w, at + 4),
         word(w, at + 5),
-        lens_of(w, at + 6),
+        word(w, at + 6),
+        lens_of(w, at + 7),
     )
 }
 
@@ -131,11 +132,11 @@ fn wide(x: u16) -> u32
     x as u32
 }
 
-fn words_of(x: Session) -> [u32; 10]
+fn words_of(x: Session) -> [u32; SLOT]
     ensures { λ r. ⌜ r ≡ sessionWords x ⌝ }
 {
     let st = x.state;
-    let l = x.lens;
+    let lens = x.lens;
     [
         state_word(st),
         wide(x.sid),
@@ -143,10 +144,11 @@ fn words_of(x: Session) -> [u32; 10]
         x.h,
         x.r,
         x.g,
-        wide(l[0]),
-        wide(l[1]),
-        wide(l[2]),
-        wide(l[3]),
+        x.l,
+        wide(lens[0]),
+        wide(lens[1]),
+        wide(lens[2]),
+        wide(lens[3]),
     ]
 }
 

@@ -6,7 +6,7 @@ use text::decimal;
 use text::hex;
 
 // Room for every answer: two rooms of 8,192 bytes in digits, which read's has at most, and 64 characters for the rest of the line. Peek's answer
-// has 8,192 digits at most, and show's sixteen slots of 79 characters.
+// has 8,192 digits at most, and show's sixteen slots of 90 characters.
 pub const LONGEST: usize = 32832;
 
 pub type Buffer = [u8; LONGEST];

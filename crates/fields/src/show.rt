@@ -42,7 +42,7 @@ fn slots(out: &mut Buffer, from: usize, e: End) -> usize
     at
 }
 
-// A field: SLOT:STATE:SID:S:H:R:G:L0:L1:L2:L3, and nothing for a slot that is all zeros.
+// A field: SLOT:STATE:SID:S:H:R:G:L:L0:L1:L2:L3, and nothing for a slot that is all zeros.
 fn slot(out: &mut Buffer, from: usize, i: u32, x: Session) -> usize
     requires { ⌜ from ≤ longest ⌝ }
     ensures { λ r. ⌜ Behind from r ⌝ }
@@ -55,9 +55,9 @@ fn slot(out: &mut Buffer, from: usize, i: u32, x: Session) -> usize
     answer::each(out, at, b':', &parts)
 }
 
-fn parts_of(x: Session) -> [u32; 10] {
+fn parts_of(x: Session) -> [u32; 11] {
     let st = x.state;
-    let l = x.lens;
+    let lens = x.lens;
     [
         number_of(st),
         wide(x.sid),
@@ -65,10 +65,11 @@ fn parts_of(x: Session) -> [u32; 10] {
         x.h,
         x.r,
         x.g,
-        wide(l[0]),
-        wide(l[1]),
-        wide(l[2]),
-        wide(l[3]),
+        x.l,
+        wide(lens[0]),
+        wide(lens[1]),
+        wide(lens[2]),
+        wide(lens[3]),
     ]
 }
 

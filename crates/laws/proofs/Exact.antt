@@ -22,6 +22,7 @@ use Rattle.session.specs.declared.record.State.{State}
 use Rattle.session.specs.declared.record.State.the-variants.{Closed, Established, FinSent, FinReceived}
 use Rattle.session.specs.declared.record.Session.{Session}
 use Rattle.session.specs.Record.{window, payloadLimit, established, finSent, finReceived, unread}
+use Rattle.session.specs.Notice.{due}
 use Rattle.table.specs.declared.end.Role.{Role}
 use Rattle.table.specs.declared.end.Role.the-variants.{Client, Server}
 use Rattle.table.specs.declared.end.End.{End}
@@ -45,9 +46,10 @@ use Rattle.judge.specs.Number.{isClient, synCases, otherCases, kindCases, packe
 use Rattle.take.specs.Take.{takeAnswer, takeOf, TakePromise}
 use Rattle.take.proofs.Answered.{take-told}
 use Rattle.laws.specs.When.{When, when, Exactly}
+use Rattle.laws.specs.Plain.{Due}
 use Rattle.laws.specs.Whens.{isWell, isUp, isHeld, Short, Enough, openWhens, sendWhens, readWhens, closeWhens, shutdownWhens, synWhens}
 use Rattle.laws.specs.Whens.{otherWhens, kindWhens, packetWhens, takeWhens}
-use Rattle.laws.proofs.Plain.{Tells, held, fully, sized, windowed, sequenced, in-established}
+use Rattle.laws.proofs.Plain.{Tells, held, fully, sized, windowed, sequenced, in-established, noticed}
 use Rattle.laws.proofs.Matching.{Is, Match, ends, goes, exactly, is, isnt, plainly, below, equal}
 
 -- ---- an answer gives its number
@@ -144,29 +146,28 @@ send-exact {e} {sid} {payload} {lent} p =
 
 -- 9 in read: one of three buffers is too short
 short-read : {n : ℕ} (e : End) (x : Session) (room ack storage : ℕ)
-    → Is (ltb room (oldestLength x) || (established (x .state) && ltb ack headerLength || shortStorage base e storage))
-    (when n ((room < oldestLength x) ⊎ (((x .state ≡ Established) × (ack < headerLength)) ⊎ Short e storage))
-    ((oldestLength x ≤ room) × (x .state ≡ Established → headerLength ≤ ack) × Enough e storage))
+    → Is (ltb room (oldestLength x) || (due x && ltb ack headerLength || shortStorage base e storage))
+    (when n ((room < oldestLength x) ⊎ ((Due x × (ack < headerLength)) ⊎ Short e storage))
+    ((oldestLength x ≤ room) × (Due x → headerLength ≤ ack) × Enough e storage))
 short-read e x room ack storage = is _ one (λ p. let a = or-split (ltb room (oldestLength x)) _ p in let b =
-    or-split (established (x .state) && ltb ack headerLength) _ (a .1) in
-    (ltb-false _ _ (a .0), (λ q. ltb-false _ _ (rw q at (b .0))), ltb-false _ _ (b .1))) apart
+    or-split (due x && ltb ack headerLength) _ (a .1) in
+    (ltb-false _ _ (a .0), (λ q. ltb-false _ _ (rw (noticed x .back q) at (b .0))), ltb-false _ _ (b .1))) apart
   where
-    two : (s : Bool) → (established (x .state) && ltb ack headerLength) ≡ s → s || shortStorage base e storage ≡ true
-        → ((x .state ≡ Established) × (ack < headerLength)) ⊎ Short e storage
-    two true q p = let t = and-split (established (x .state)) (ltb ack headerLength) q in inl (in-established (x .state) (t .0), ltb-true _ _ (t .1))
+    two : (s : Bool) → (due x && ltb ack headerLength) ≡ s → s || shortStorage base e storage ≡ true → (Due x × (ack < headerLength)) ⊎ Short e storage
+    two true q p = let t = and-split (due x) (ltb ack headerLength) q in inl (noticed x .to (t .0), ltb-true _ _ (t .1))
     two false q p = inr (ltb-true _ _ p)
 
-    by : (s : Bool) → ltb room (oldestLength x) ≡ s → s || (established (x .state) && ltb ack headerLength || shortStorage base e storage) ≡ true
-        → (room < oldestLength x) ⊎ (((x .state ≡ Established) × (ack < headerLength)) ⊎ Short e storage)
+    by : (s : Bool) → ltb room (oldestLength x) ≡ s → s || (due x && ltb ack headerLength || shortStorage base e storage) ≡ true
+        → (room < oldestLength x) ⊎ ((Due x × (ack < headerLength)) ⊎ Short e storage)
     by true q p = inl (ltb-true _ _ q)
     by false q p = inr (two _ refl p)
 
-    one : ltb room (oldestLength x) || (established (x .state) && ltb ack headerLength || shortStorage base e storage) ≡ true
-        → (room < oldestLength x) ⊎ (((x .state ≡ Established) × (ack < headerLength)) ⊎ Short e storage)
+    one : ltb room (oldestLength x) || (due x && ltb ack headerLength || shortStorage base e storage) ≡ true
+        → (room < oldestLength x) ⊎ ((Due x × (ack < headerLength)) ⊎ Short e storage)
     one p = by _ refl p
 
-    apart : (room < oldestLength x) ⊎ (((x .state ≡ Established) × (ack < headerLength)) ⊎ Short e storage)
-        → (oldestLength x ≤ room) × (x .state ≡ Established → headerLength ≤ ack) × Enough e storage → ⊥
+    apart : (room < oldestLength x) ⊎ ((Due x × (ack < headerLength)) ⊎ Short e storage)
+        → (oldestLength x ≤ room) × (Due x → headerLength ≤ ack) × Enough e storage → ⊥
     apart (inl a) f = omega (arith, a, f .0)
     apart (inr (inl a)) f = omega (arith, a .1, f .1 (a .0))
     apart (inr (inr a)) f = omega (arith, a, f .2)

@@ -4,6 +4,7 @@ pub mod Exact
 pub mod Demand1
 pub mod One
 pub mod Kept
+pub mod Notices
 pub mod Twelve
 pub mod Own
 pub mod Alike

@@ -18,13 +18,14 @@ use Rattle.session.specs.declared.record.State.the-variants.{Closed, Establishe
 use Rattle.session.specs.declared.record.Session.{Session}
 use Rattle.session.specs.Counter.{minus, plus}
 use Rattle.session.specs.Record.{window, payloadLimit, established}
+use Rattle.session.specs.Notice.{due}
 use Rattle.effect.specs.Taken.{windowInRange, seqnumInRange}
 use Rattle.table.specs.declared.end.End.{End}
 use Rattle.table.specs.Slots.{holds, slotOf, lowestFree, full}
 use Rattle.table.proofs.Made.{slot-holds}
 use Rattle.table.proofs.SlotAt.{held-within, held-used, held-named}
 use Rattle.table.proofs.Lowest.{lowest-within, lowest-unused, full-used}
-use Rattle.laws.specs.Plain.{Held, Full, LengthRight, InWindow, Within, InSequence}
+use Rattle.laws.specs.Plain.{Held, Full, LengthRight, InWindow, Within, InSequence, Due}
 
 -- a test true exactly where something holds
 pub record Tells (b : Bool) (P : Type 0) : Type 0 where
@@ -115,3 +116,12 @@ sequenced x Data q = by-state x q (established (x .state)) refl
 sequenced x Syn q = within x q
 sequenced x Ack q = within x q
 sequenced x Fin q = within x q
+
+-- ---- an ACK due
+
+pub noticed : (x : Session) → Tells (due x) (Due x)
+unfolding due
+noticed x = record {
+  to = λ p. let a = and-split (established (x .state)) _ p in (in-established (x .state) (a .0), leb-true _ _ (a .1));
+  back = λ d. and-both _ _ (ap established (d .0)) (le-leb _ _ (d .1));
+}

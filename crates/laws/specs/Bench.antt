@@ -25,11 +25,11 @@ header flags len seqnum wndw = headerBytes (headerWith flags 5 len seqnum wndw)
 
 -- S = 0xffffffff, H = 3
 abbrev pub sending : Session
-sending = statedOf 5 0xffff_ffff 3 0 4
+sending = statedOf 5 0xffff_ffff 3 0 4 4
 
 -- R = 0xfffffffe, G = 2, ESTABLISHED
 abbrev pub taking : Session
-taking = statedOf 5 0 4 0xffff_fffe 2
+taking = statedOf 5 0 4 0xffff_fffe 2 2
 
 -- the answer of take, with storage enough
 abbrev pub gives : Session → List ℕ → ℕ

@@ -1,4 +1,4 @@
--- Document 01's tests in plain words: a session with a SID, no free slot, LENGTH right for a kind, WNDW and SEQNUM in range.
+-- Document 01's tests in plain words: a session with a SID, no free slot, LENGTH right for a kind, WNDW and SEQNUM in range, an ACK due.
 use Prim.Native.Nat.{ℕ, _+_, _≤_, _<_}
 use mathlib.Core.Path.{_≡_}
 use mathlib.Core.Bool.{true}
@@ -41,3 +41,7 @@ InSequence x Data seqnum =
 InSequence x Syn seqnum = Within x seqnum
 InSequence x Ack seqnum = Within x seqnum
 InSequence x Fin seqnum = Within x seqnum
+
+-- a read emits ACK (document 02, (i)): in ESTABLISHED, where the new G is 2 or more past L
+abbrev pub Due : Session → Type 0
+Due x = (x .state ≡ Established) × (2 ≤ minus (plus (x .g) 1) (x .l))

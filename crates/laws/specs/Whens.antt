@@ -22,7 +22,7 @@ use Rattle.table.specs.Well.{WellMade}
 use Rattle.table.specs.Storage.{storageLength}
 use Rattle.read.specs.Read.{oldestLength}
 use Rattle.laws.specs.When.{When, when}
-use Rattle.laws.specs.Plain.{Held, Full, LengthRight, InWindow, InSequence}
+use Rattle.laws.specs.Plain.{Held, Full, LengthRight, InWindow, InSequence, Due}
 
 -- 12, the lent record isn't well made; 1, the end is down
 abbrev pub isWell : End → When
@@ -64,15 +64,15 @@ sendOn x n room =
 abbrev pub sendWhens : End → ℕ → ℕ → ℕ → List When
 sendWhens e sid n room = isWell e ∷ isUp e ∷ isHeld e sid ∷ sendOn (sessionOf sid (e .slots)) n room
 
--- read 12, 1, 4, 5, 8 or 11, 9; 9: payload buffer shorter than the payload, or ACK buffer under 16 in ESTABLISHED, or storage too short
+-- read 12, 1, 4, 5, 8 or 11, 9; 9: payload buffer shorter than the payload, or ACK buffer under 16 where one is emitted, or storage too short
 abbrev pub readOn : End → Session → ℕ → ℕ → ℕ → List When
 readOn e x room ack storage =
     when 5 (x .state ≡ FinSent) (x .state ≡ FinSent → ⊥)
     ∷ when 8 ((x .state ≡ Established) × (unread x ≡ 0)) ((x .state ≡ Established) × (unread x ≡ 0) → ⊥)
     ∷ when 11 ((x .state ≡ FinReceived) × (unread x ≡ 0)) ((x .state ≡ FinReceived) × (unread x ≡ 0) → ⊥)
     ∷ when 9
-    ((room < oldestLength x) ⊎ (((x .state ≡ Established) × (ack < headerLength)) ⊎ Short e storage))
-    ((oldestLength x ≤ room) × (x .state ≡ Established → headerLength ≤ ack) × Enough e storage)
+    ((room < oldestLength x) ⊎ ((Due x × (ack < headerLength)) ⊎ Short e storage))
+    ((oldestLength x ≤ room) × (Due x → headerLength ≤ ack) × Enough e storage)
     ∷ []
 
 abbrev pub readWhens : End → ℕ → ℕ → ℕ → ℕ → List When

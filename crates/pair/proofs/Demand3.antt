@@ -10,7 +10,8 @@ use lib.ListN.{length, take}
 use Rattle.wire.specs.Packet.{headerLength}
 use Rattle.session.specs.declared.record.State.the-variants.{Established, FinReceived}
 use Rattle.session.specs.Counter.{minus}
-use Rattle.session.specs.Record.{inUse, finSent, unread}
+use Rattle.session.specs.Record.{window, inUse, finSent, unread}
+use Rattle.session.specs.Notice.{due}
 use Rattle.open.specs.declared.Opened.{Opened}
 use Rattle.send.specs.declared.Sent.{Sent}
 use Rattle.read.specs.declared.Got.{Got}
@@ -123,11 +124,11 @@ module _ (slots : ℕ) (lim : Limits) (storage : Side → List ℕ) (steps : Lis
           let all = half-received (lanes-run .along) n k ∙ u ∙ sym (half-accepted (lanes-run .along) n (other k)) in
           read-told mirror k i n s (held-state mirror k i n s fr e) (all-read _ (mirror .inv .good n) k all)
 
-    -- 8. Where both sides have a session in ESTABLISHED, nothing is on its way and all is read at the other side, H - S = 4 at this one, whatever
-    -- the counters are; so a send of a payload within the limit, with room for it, is accepted.
+    -- 8. Where both sides have a session in ESTABLISHED, nothing is on its way and all is read at the other side, H - S is 3 or 4 at this one, whatever
+    -- the counters are and whatever it has unread itself; so a send of a payload within the limit, with room for it, is accepted.
     module _ (n : ℕ) (i : Side → ℕ) (s : (k : Side) → Holds x k (i k) n) (e : (k : Side) → slotAt x k (i k) .state ≡ Established)
         (c : (k : Side) → x .world k .coming ≡ []) (k : Side) (u : unread (slotAt x (other k) (i (other k))) ≡ 0) where
-      pub window-opens : minus (slotAt x k (i k) .h) (slotAt x k (i k) .s) ≡ 4
+      pub window-opens : (3 ≤ minus (slotAt x k (i k) .h) (slotAt x k (i k) .s)) × (minus (slotAt x k (i k) .h) (slotAt x k (i k) .s) ≤ window)
       window-opens = window-open mirror n i s e c k u
 
       pub window-sends : (payload : List ℕ) (room : ℕ) → length payload ≤ lim .place → headerLength + length payload ≤ room
@@ -158,7 +159,8 @@ module _ (slots : ℕ) (lim : Limits) (storage : Side → List ℕ) (steps : Lis
     take-goes = progress.take-goes mirror
 
     module _ (k : Side) (i n : ℕ) (s : Holds x k i n) where
-      pub read-goes : finSent (slotAt x k i .state) ≡ false → unread (slotAt x k i) ≢ 0 → (room ack lent : ℕ) → lim .place ≤ room → headerLength ≤ ack
+      pub read-goes : finSent (slotAt x k i .state) ≡ false → unread (slotAt x k i) ≢ 0 → (room ack lent : ℕ) → lim .place ≤ room
+          → (due (slotAt x k i) ≡ true → headerLength ≤ ack)
           → Enough lim x k lent → replyTo lim (record { side = k; call = Read (slotAt x k i .sid) room ack lent }) (x .world) .number ≡ 0
       read-goes = progress.read-goes mirror k i n s
 

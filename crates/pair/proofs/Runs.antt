@@ -2,6 +2,7 @@
 use mathlib.Core.Path.{refl}
 use Rattle.cases.specs.Cases.{first}
 use Rattle.wire.specs.Packet.{number, bytes, readHeader, headerBytes, flagsOf}
+use Rattle.session.specs.Notice.{due}
 use Rattle.session.specs.Well.{inOrder}
 use Rattle.effect.specs.Taken.{windowInRange, seqnumInRange}
 use Rattle.table.specs.Slots.{holds, sessionOf, slotOf, changed, lowestFree, smallestFrom, full, heldCount}
@@ -19,10 +20,13 @@ use Rattle.pair.specs.Runs.{takenIn, Shown}
 pub runs : Shown
 unfolding history final own accepted received openOf openPacket openNumber sendOf sendPacket sendNumber readOf readNumber readPayload readAck closeOf
     closePacket closeNumber takeOf takeNumber takeStorage first number bytes readHeader headerBytes flagsOf inOrder windowInRange seqnumInRange holds
-    sessionOf slotOf changed lowestFree smallestFrom every sidsDiffer full heldCount takenIn
+    sessionOf slotOf changed lowestFree smallestFrom every sidsDiffer full heldCount takenIn due
 runs = (
   ((refl, refl), refl, refl, refl, (refl, refl)),
   ((refl, refl), refl, refl, refl, (refl, refl)),
+  ((refl, refl), refl, refl, refl, (refl, refl), refl, refl),
+  ((refl, refl), refl, refl, refl),
+  ((refl, refl), refl, refl, refl),
   ((refl, refl), refl, refl, refl, refl, refl, (refl, refl)),
   ((refl, refl), refl, (refl, refl)),
   ((refl, refl), refl, refl, refl, (refl, refl)),

@@ -9,7 +9,8 @@ use lib.ListN.{length, take}
 use Rattle.wire.specs.Packet.{headerLength}
 use Rattle.session.specs.declared.record.State.the-variants.{Established, FinReceived}
 use Rattle.session.specs.Counter.{minus}
-use Rattle.session.specs.Record.{payloadLimit, finSent, unread}
+use Rattle.session.specs.Record.{window, payloadLimit, finSent, unread}
+use Rattle.session.specs.Notice.{due}
 use Rattle.table.specs.Slots.{full}
 use Rattle.table.specs.End.{slotCount}
 use Rattle.table.specs.Limits.{base}
@@ -74,7 +75,7 @@ module _ (storage : Side → List ℕ) (steps : List Step) where
 
   module _ (n : ℕ) (i : Side → ℕ) (s : (k : Side) → Holds x k (i k) n) (e : (k : Side) → slotAt x k (i k) .state ≡ Established)
       (c : (k : Side) → x .world k .coming ≡ []) (k : Side) (u : unread (slotAt x (other k) (i (other k))) ≡ 0) where
-    pub window-opens : minus (slotAt x k (i k) .h) (slotAt x k (i k) .s) ≡ 4
+    pub window-opens : (3 ≤ minus (slotAt x k (i k) .h) (slotAt x k (i k) .s)) × (minus (slotAt x k (i k) .h) (slotAt x k (i k) .s) ≤ window)
     window-opens = any.window-opens slotCount base storage steps sizes n i s e c k u
 
     pub window-sends : (payload : List ℕ) (room : ℕ) → length payload ≤ payloadLimit → headerLength + length payload ≤ room
@@ -97,7 +98,8 @@ module _ (storage : Side → List ℕ) (steps : List Step) where
   take-goes = any.take-goes slotCount base storage steps sizes
 
   module _ (k : Side) (i n : ℕ) (s : Holds x k i n) where
-    pub read-goes : finSent (slotAt x k i .state) ≡ false → unread (slotAt x k i) ≢ 0 → (room ack lent : ℕ) → payloadLimit ≤ room → headerLength ≤ ack
+    pub read-goes : finSent (slotAt x k i .state) ≡ false → unread (slotAt x k i) ≢ 0 → (room ack lent : ℕ) → payloadLimit ≤ room
+        → (due (slotAt x k i) ≡ true → headerLength ≤ ack)
         → Enough base x k lent → replyTo base (record { side = k; call = Read (slotAt x k i .sid) room ack lent }) (x .world) .number ≡ 0
     read-goes = any.read-goes slotCount base storage steps sizes k i n s
 

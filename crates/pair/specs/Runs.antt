@@ -4,9 +4,10 @@ use Prim.Native.Nat.{ℕ}
 use mathlib.Core.Path.{_≡_}
 use mathlib.Core.List.{List, [], _∷_, _++_, map}
 use mathlib.Core.Option.{Option, none, some}
-use lib.ListN.{replicate}
+use lib.ListN.{replicate, take}
 use Rattle.cases.specs.Cases.{if, done}
 use Rattle.session.specs.declared.record.Session.{Session}
+use Rattle.session.specs.Counter.{minus}
 use Rattle.session.specs.Record.{window, statedOf}
 use Rattle.table.specs.declared.end.Role.{Role}
 use Rattle.table.specs.declared.end.Role.the-variants.{Client, Server}
@@ -17,7 +18,7 @@ use Rattle.pair.specs.Side.{Side, client, server}
 use Rattle.pair.specs.World.{Party}
 use Rattle.pair.specs.Step.{Call, Open, Send, Read, Close, Take, shape, Step}
 use Rattle.pair.specs.History.{Scene, Entry, dawn, history, final}
-use Rattle.pair.specs.Claims.{own, accepted, received}
+use Rattle.pair.specs.Claims.{own, accepted, received, slotAt}
 
 -- a step, the number that it should get and the session that it should belong to
 pub record Line : Type 0 where
@@ -89,6 +90,46 @@ unreadRows =
     ∷ is client (Take 16 32) 10 none
     ∷ []
 
+-- fewer notices: the first row is read in silence, with no room for an ACK; then the ACK is due, and a read without room for it is refused
+abbrev pub notices : List Line
+notices =
+    is client (Open 16) 0 (some 0)
+    ∷ is client (Send 0 (5 ∷ []) 17) 0 (some 0)
+    ∷ is client (Send 0 (6 ∷ []) 17) 0 (some 0)
+    ∷ is server (Take 100 32) 0 (some 0)
+    ∷ is server (Take 100 32) 0 (some 0)
+    ∷ is server (Take 100 32) 0 (some 0)
+    ∷ is server (Read 0 4 0 32) 0 (some 0)
+    ∷ is client (Take 16 32) 10 none
+    ∷ is server (Read 0 4 0 32) 9 (some 0)
+    ∷ is server (Read 0 4 16 32) 0 (some 0)
+    ∷ is client (Take 16 32) 0 (some 0)
+    ∷ []
+
+-- one row, sent, taken and read, with room for an ACK
+abbrev pub rowRead : ℕ → List Line
+rowRead n = is client (Send 0 (n ∷ []) 17) 0 (some 0) ∷ is server (Take 17 32) 0 (some 0) ∷ is server (Read 0 1 16 32) 0 (some 0) ∷ []
+
+-- two rows read one after the other; the client takes the ACK of the second
+abbrev pub twoRead : ℕ → ℕ → List Line
+twoRead n m = rowRead n ++ (rowRead m ++ (is client (Take 16 32) 0 (some 0) ∷ []))
+
+abbrev pub begun : List Line
+begun = is client (Open 16) 0 (some 0) ∷ is server (Take 16 32) 0 (some 0) ∷ []
+
+-- eight rows read one after the other, with four ACKs and no more
+abbrev pub eightRows : List Line
+eightRows = begun ++ (twoRead 1 2 ++ (twoRead 3 4 ++ (twoRead 5 6 ++ (twoRead 7 8 ++ (is client (Take 16 32) 10 none ∷ [])))))
+
+-- DATA going back announces the window, and the next read emits no ACK
+abbrev pub backAnnounces : List Line
+backAnnounces =
+    begun
+    ++ (rowRead 1
+    ++ (is server (Send 0 (9 ∷ []) 17) 0 (some 0)
+    ∷ is client (Take 17 32) 0 (some 0)
+    ∷ (rowRead 2 ++ (is client (Take 16 32) 10 none ∷ []))))
+
 -- a SID used again while the server still holds the old session under it: the FIN and the SYN both carry SID 0
 abbrev pub again : List Line
 again =
@@ -138,8 +179,8 @@ late = record {
     at role x = record { end = putOf 0 x (startedOf 2 role); storage = replicate 32 0; coming = [] }
 
     worldAt : Side → Party
-    worldAt client = at Client (statedOf 0 0xfffffffe 2 0 4)
-    worldAt server = at Server (statedOf 0 0 4 0xfffffffe 2)
+    worldAt client = at Client (statedOf 0 0xfffffffe 2 0 4 4)
+    worldAt server = at Server (statedOf 0 0 4 0xfffffffe 2 2)
 
 abbrev pub wrapping : List Line
 wrapping =
@@ -179,6 +220,12 @@ heldAt k x = heldCount (x .world k .end .slots)
 abbrev pub Leaves : Scene → List Line → ℕ → ℕ → Type 0
 Leaves x lines n m = (heldAt client (final (sized 4) x (steps lines)) ≡ n) × (heldAt server (final (sized 4) x (steps lines)) ≡ m)
 
+-- what the client's window is, in its slot 0, after the first n steps
+abbrev pub Opens : Scene → List Line → ℕ → ℕ → Type 0
+Opens x lines n w =
+    let s = slotAt (final (sized 4) x (take n (steps lines))) client 0 in
+    minus (s .h) (s .s) ≡ w
+
 abbrev pub ShownRow : Type 0
 ShownRow =
     Goes two row
@@ -194,6 +241,30 @@ ShownUnread =
     × Arrives two unreadRows 0 ((5 ∷ []) ∷ (6 ∷ 7 ∷ []) ∷ [])
     × Takes two unreadRows ((1, 0) ∷ (8, 0) ∷ (8, 0) ∷ (4, 0) ∷ [])
     × Leaves two unreadRows 1 1
+
+abbrev pub ShownNotices : Type 0
+ShownNotices =
+    Goes two notices
+    × Accepts two notices 0 ((5 ∷ []) ∷ (6 ∷ []) ∷ [])
+    × Arrives two notices 0 ((5 ∷ []) ∷ (6 ∷ []) ∷ [])
+    × Takes two notices ((1, 0) ∷ (8, 0) ∷ (8, 0) ∷ (2, 0) ∷ [])
+    × Leaves two notices 1 1
+    × Opens two row 6 3
+    × Opens two notices 11 4
+
+abbrev pub ShownEight : Type 0
+ShownEight =
+    Goes two eightRows
+    × Arrives two eightRows 0 ((1 ∷ []) ∷ (2 ∷ []) ∷ (3 ∷ []) ∷ (4 ∷ []) ∷ (5 ∷ []) ∷ (6 ∷ []) ∷ (7 ∷ []) ∷ (8 ∷ []) ∷ [])
+    × Takes two eightRows ((1, 0) ∷ (8, 0) ∷ (8, 0) ∷ (2, 0) ∷ (8, 0) ∷ (8, 0) ∷ (2, 0) ∷ (8, 0) ∷ (8, 0) ∷ (2, 0) ∷ (8, 0) ∷ (8, 0) ∷ (2, 0) ∷ [])
+    × Opens two eightRows 31 4
+
+abbrev pub ShownBack : Type 0
+ShownBack =
+    Goes two backAnnounces
+    × Arrives two backAnnounces 0 ((1 ∷ []) ∷ (2 ∷ []) ∷ [])
+    × Takes two backAnnounces ((1, 0) ∷ (8, 0) ∷ (8, 0) ∷ (8, 0) ∷ [])
+    × Opens two backAnnounces 11 3
 
 abbrev pub ShownAgain : Type 0
 ShownAgain =
@@ -226,4 +297,4 @@ ShownMany =
     × (heldAt server (final (sized 1) sixteen many) ≡ 16)
 
 abbrev pub Shown : Type 0
-Shown = ShownRow × ShownUnread × ShownAgain × ShownCrossing × ShownWrapping × ShownMany
+Shown = ShownRow × ShownUnread × ShownNotices × ShownEight × ShownBack × ShownAgain × ShownCrossing × ShownWrapping × ShownMany

@@ -13,7 +13,8 @@ use Rattle.cases.proofs.Tests.{or-split}
 use Rattle.cases.proofs.First.{numbered, test, clear}
 use Rattle.wire.specs.Packet.{headerLength}
 use Rattle.session.specs.declared.record.Session.{Session}
-use Rattle.session.specs.Record.{inUse, established}
+use Rattle.session.specs.Record.{inUse}
+use Rattle.session.specs.Notice.{due}
 use Rattle.table.specs.declared.end.End.{End}
 use Rattle.table.specs.Slots.{holds, sessionOf, slotOf}
 use Rattle.table.specs.Storage.{storageLength}
@@ -44,10 +45,10 @@ module _ (lim : Limits) (e : End) (sid room ack st : ℕ) (z : readNumber lim e 
       let in-use = ap (λ (y : Session). inUse (y .state)) (sym x) ∙ held sid (e .slots) ∙ zero-held in
       subst (λ (y : Session). oldestLength y ≤ lim .place) (sym x) (order .used in-use .lengths _ (mod-lt _ (omega arith)))
 
-  pub zero-room : (oldestLength (sessionOf sid (e .slots)) ≤ room) × (established (sessionOf sid (e .slots) .state) && ltb ack headerLength ≡ false)
+  pub zero-room : (oldestLength (sessionOf sid (e .slots)) ≤ room) × (due (sessionOf sid (e .slots)) && ltb ack headerLength ≡ false)
       × (storageLength (lim .place) (length (e .slots)) ≤ st)
   unfolding test
   zero-room =
       let nine = or-split _ _ (none 9) in
-      let more = or-split (established (sessionOf sid (e .slots) .state) && ltb ack headerLength) (shortStorage lim e st) (nine .1) in
+      let more = or-split (due (sessionOf sid (e .slots)) && ltb ack headerLength) (shortStorage lim e st) (nine .1) in
       (ltb-false _ _ (nine .0), more .0, ltb-false _ _ (more .1))

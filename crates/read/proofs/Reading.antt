@@ -11,7 +11,8 @@ use Rattle.wire.specs.declared.header.Header.{Header}
 use Rattle.wire.specs.Packet.{headerLength, headerBytes}
 use Rattle.buffer.specs.Onto.{onto}
 use Rattle.session.specs.declared.record.Session.{Session}
-use Rattle.session.specs.Record.{payloadLimit, established, oldest}
+use Rattle.session.specs.Record.{payloadLimit, oldest}
+use Rattle.session.specs.Notice.{due}
 use Rattle.session.specs.Changes.{readOn}
 use Rattle.table.specs.declared.end.End.{End}
 use Rattle.scan.specs.declared.Look.{Look}
@@ -32,21 +33,21 @@ use Rattle.calling.proofs.Looked as looked
 
 -- ---- the ACK
 
-pub ack-none : (x : Session) (a : List ℕ) → not (established (x .state)) ≡ true → (0 ≡ length (ackOn x)) × (a ≡ onto (ackOn x) a)
+pub ack-none : (x : Session) (a : List ℕ) → not (due x) ≡ true → (0 ≡ length (ackOn x)) × (a ≡ onto (ackOn x) a)
 ack-none x a p =
-    let e : ackOn x ≡ [] = rw (not-true (established (x .state)) p) in
+    let e : ackOn x ≡ [] = rw (not-true (due x) p) in
     (ap length (sym e), ap (λ (o : List ℕ). onto o a) (sym e))
 
-pub ack-some : (x : Session) (a : List ℕ) {h : Header} {a' : List ℕ} → not (established (x .state)) ≡ false → h ≡ ackHeader x → a' ≡ onto (headerBytes h) a
+pub ack-some : (x : Session) (a : List ℕ) {h : Header} {a' : List ℕ} → not (due x) ≡ false → h ≡ ackHeader x → a' ≡ onto (headerBytes h) a
     → (headerLength ≡ length (ackOn x)) × (a' ≡ onto (ackOn x) a)
 unfolding headerBytes Rattle.wire.specs.Packet.bytes
 ack-some x a p ph pa =
-    let e : ackOn x ≡ headerBytes (ackHeader x) = rw (not-false (established (x .state)) p) in
+    let e : ackOn x ≡ headerBytes (ackHeader x) = rw (not-false (due x) p) in
     (ap length (sym e), pa ∙ ap (λ (g : Header). onto (headerBytes g) a) ph ∙ ap (λ (o : List ℕ). onto o a) (sym e))
 
-pub ack-room : (x : Session) (a : List ℕ) → established (x .state) && ltb (length a) headerLength ≡ false → not (established (x .state)) ≡ false
+pub ack-room : (x : Session) (a : List ℕ) → due x && ltb (length a) headerLength ≡ false → not (due x) ≡ false
     → headerLength ≤ length a
-ack-room x a p q = ltb-false _ _ (rw (not-false (established (x .state)) q) at p)
+ack-room x a p q = ltb-false _ _ (rw (not-false (due x) q) at p)
 
 -- ---- the code saw l and found the number n, for the storage st, the payload buffer b and the ACK buffer a
 
@@ -54,7 +55,7 @@ pub record Fits (slot : ℕ) (x : Session) (st b a : List ℕ) : Type 0 where
   pub within : slot < slotCount
   pub short : oldestLength x ≤ payloadLimit
   pub room : oldestLength x ≤ length b
-  pub ack : established (x .state) && ltb (length a) headerLength ≡ false
+  pub ack : due x && ltb (length a) headerLength ≡ false
   pub storage : storageLength payloadLimit slotCount ≤ length st
 
 module _ (e : End) (sid : ℕ) (st b a : List ℕ) (long : slotCount ≡ length (e .slots)) {l : Look} {n : ℕ}
@@ -89,7 +90,7 @@ module _ (e : End) (sid : ℕ) (st b a : List ℕ) (long : slotCount ≡ length 
         within = subst (λ (k : ℕ). k < slotCount) (sym (looked.slot e sid l look (well z))) i;
         short = subst (λ (y : Session). oldestLength y ≤ payloadLimit) x (zero-limit base e sid (length b) (length a) (length st) (zero z));
         room = subst (λ (y : Session). oldestLength y ≤ length b) x (nine .0);
-        ack = subst (λ (y : Session). established (y .state) && ltb (length a) headerLength ≡ false) x (nine .1);
+        ack = subst (λ (y : Session). due y && ltb (length a) headerLength ≡ false) x (nine .1);
         storage = subst (λ (k : ℕ). storageLength payloadLimit k ≤ length st) (sym long) (nine .2);
       }
 

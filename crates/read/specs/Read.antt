@@ -1,5 +1,5 @@
--- Read: hands over the oldest unread payload; G grows by 1. In ESTABLISHED it emits ACK, SEQNUM S, WNDW the new G.
--- In FIN RECEIVED it emits nothing. Refusals 12, 1, 4, 5, 8 or 11, 9.
+-- Read: hands over the oldest unread payload; G grows by 1. In ESTABLISHED it emits ACK, SEQNUM S, WNDW the new G, where one is due
+-- (document 02, (i)). In FIN RECEIVED it emits nothing. Refusals 12, 1, 4, 5, 8 or 11, 9.
 use Prim.Native.Nat.{ℕ}
 use mathlib.Core.Path.{_≡_}
 use mathlib.Core.Bool.{Bool, _&&_, _||_}
@@ -12,8 +12,8 @@ use Rattle.wire.specs.declared.kind.Kind.the-variants.{Ack}
 use Rattle.wire.specs.Packet.{headerLength, headerBytes, headerOf}
 use Rattle.buffer.specs.Onto.{onto}
 use Rattle.session.specs.declared.record.Session.{Session}
-use Rattle.session.specs.Counter.{plus}
 use Rattle.session.specs.Record.{established, finSent, finReceived, unread, oldest, lengthAt}
+use Rattle.session.specs.Notice.{newG, due}
 use Rattle.session.specs.Changes.{readOn}
 use Rattle.table.specs.declared.end.End.{End}
 use Rattle.table.specs.Slots.{sessionOf, slotOf}
@@ -27,13 +27,13 @@ use Rattle.calling.specs.Calling.{calling, shortStorage}
 abbrev pub oldestLength : Session → ℕ
 oldestLength x = lengthAt (oldest x) x
 
--- 9: payload buffer shorter than the payload, or ACK buffer under 16 in ESTABLISHED, or storage too short
+-- 9: payload buffer shorter than the payload, or ACK buffer under 16 where an ACK is emitted, or storage too short
 abbrev pub readCases : Session → ℕ → ℕ → Bool → List Case
 readCases x room ack short =
     finSent (x .state) ⇒ 5
     ∷ (established (x .state) && eqb (unread x) 0) ⇒ 8
     ∷ (finReceived (x .state) && eqb (unread x) 0) ⇒ 11
-    ∷ (ltb room (oldestLength x) || (established (x .state) && ltb ack headerLength || short)) ⇒ 9
+    ∷ (ltb room (oldestLength x) || (due x && ltb ack headerLength || short)) ⇒ 9
     ∷ []
 
 unfoldable pub readNumber : Limits → End → ℕ → ℕ → ℕ → ℕ → ℕ
@@ -41,11 +41,11 @@ readNumber lim e sid room ack storage =
     first (calling lim e sid ++ readCases (sessionOf sid (e .slots)) room ack (shortStorage lim e storage))
 
 abbrev pub ackHeader : Session → Header
-ackHeader x = headerOf Ack (x .sid) headerLength (x .s) (plus (x .g) 1)
+ackHeader x = headerOf Ack (x .sid) headerLength (x .s) (newG x)
 
 -- what a session emits when it is read
 abbrev pub ackOn : Session → List ℕ
-ackOn x = if (established (x .state)) (headerBytes (ackHeader x)) []
+ackOn x = if (due x) (headerBytes (ackHeader x)) []
 
 -- what stands for it in the storage
 abbrev pub oldestIn : Limits → ℕ → Session → List ℕ → List ℕ

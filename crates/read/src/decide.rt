@@ -37,7 +37,7 @@ fn session_number(x: Session, room: usize, ack: usize, short: bool) -> u8
     if both(st.fin_received(), none) {
         return number::WRITER_ENDED;
     }
-    let no_ack = both(st.established(), ack < Header::LEN);
+    let no_ack = both(x.due(), ack < Header::LEN);
     if either(room < oldest_length(x), either(no_ack, short)) {
         return number::TOO_SHORT;
     }

@@ -1,4 +1,4 @@
-// Read: the oldest unread payload is handed over, and in ESTABLISHED an ACK goes out.
+// Read: the oldest unread payload is handed over, and an ACK goes out where one is due.
 ghost use mathlib.Core.Path.{_≡_};
 ghost use mathlib.Core.Bool.{false, _&&_};
 ghost use Prim.Native.Nat.{_≤_, _<_};
@@ -6,7 +6,8 @@ ghost use lib.ListN.{length, take, drop};
 ghost use lib.Dec.{ltb};
 ghost use Rattle.buffer.specs.Onto.{onto, Front};
 ghost use Rattle.wire.specs.Packet.{headerLength};
-ghost use Rattle.session.specs.Record.{payloadLimit, established};
+ghost use Rattle.session.specs.Record.{payloadLimit};
+ghost use Rattle.session.specs.Notice.{due};
 ghost use Rattle.table.specs.End.{slotCount};
 ghost use Rattle.table.specs.Storage.{storageLength, placeStart};
 ghost use Rattle.read.specs.Read.{ackOn, readDone, readRefused, ReadPromise};
@@ -29,7 +30,7 @@ pub struct Got {
     pub number: u8,
     // How many bytes at the front of `payload` were handed over; 0 for an empty payload too.
     pub payload_length: usize,
-    // How many bytes at the front of `ack` are the ACK: 16 in ESTABLISHED, 0 in FIN RECEIVED.
+    // How many bytes at the front of `ack` are the ACK: 16 where one goes out, else 0.
     pub ack_length: usize,
     // The end after the read; after a refusal the end as it was given.
     pub end: End,
@@ -59,14 +60,13 @@ impl Got {
     }
 }
 
-// The ACK, in ESTABLISHED, and its length.
+// The ACK, where one is due, and its length.
 fn write_ack(ack: &mut [u8], x: Session) -> usize
-    requires { ⌜ established (x .state) && ltb (length (now ack)) headerLength ≡ false ⌝ }
+    requires { ⌜ due x && ltb (length (now ack)) headerLength ≡ false ⌝ }
     ensures { λ r. ⌜ r ≡ length (ackOn x) ⌝ }
     ensures { λ _. ⌜ now (ack .exit) ≡ onto (ackOn x) (now (ack .entry)) ⌝ }
 {
-    let st = x.state;
-    if !st.established() {
+    if !x.due() {
         return 0;
     }
     wire::write::header(ack, ack_header(x));
@@ -82,8 +82,9 @@ fn hand_over(payload: &mut [u8], storage: &[u8], slot: usize, seqnum: u32, n: us
     copy_in(payload, 0, &storage[at..at + n]);
 }
 
-// Hands over the oldest unread payload of the session `sid`, from its place in the storage to the front of `payload`. G grows by 1, and in ESTABLISHED
-// an ACK goes to the front of `ack`, for the transport. The storage, later bytes of both buffers and every other slot stay. A refusal changes nothing.
+// Hands over the oldest unread payload of the session `sid`, from its place in the storage to the front of `payload`. G grows by 1. In ESTABLISHED,
+// where the new G is 2 or more past what the peer was last told, an ACK goes to the front of `ack`, for the transport. The storage, later bytes of
+// both buffers and every other slot stay. A refusal changes nothing.
 pub fn read(e: End, sid: u16, storage: &[u8], payload: &mut [u8], ack: &mut [u8]) -> Got
     ensures { λ r. ⌜ ReadPromise e sid (now (storage .entry)) (now (payload .entry)) (now (ack .entry)) r (now (payload .exit)) (now (ack .exit)) ⌝ }
     ensures { λ r. ⌜ Front (r .«payload_length») (now (payload .exit)) × Front (r .«ack_length») (now (ack .exit)) ⌝ }

@@ -78,7 +78,7 @@ pub(crate) fn open(t: Talk, storage: &mut Storage) -> Talk {
     arrive(r.end, t.taker, &packet[..n], storage)
 }
 
-// A row goes out in a DATA packet. `number::WINDOW_CLOSED` would say that four rows are unread at the other end.
+// A row goes out in a DATA packet. `number::WINDOW_CLOSED` would say that the other end has announced no more room yet.
 pub(crate) fn send(t: Talk, sid: u16, row: &[u8], storage: &mut Storage) -> Talk {
     if !t.going {
         return t;
@@ -92,7 +92,8 @@ pub(crate) fn send(t: Talk, sid: u16, row: &[u8], storage: &mut Storage) -> Talk
     arrive(r.end, t.taker, &packet[..n], storage)
 }
 
-// The oldest row that waits is handed over. An ACK goes out, so that the writer may send one more; none does after the writer's FIN.
+// The oldest row that waits is handed over. An ACK goes out, so that the writer may send on, where two rows were read since this end last sent
+// something; none does after the writer's FIN.
 pub(crate) fn read(t: Talk, sid: u16, own: &Storage, storage: &mut Storage) -> Talk {
     if !t.going {
         return t;

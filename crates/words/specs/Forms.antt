@@ -43,11 +43,11 @@ isTake line = eqb (spaces line) 1 && isBytes (wordOf 1 line)
 abbrev pub isLend : List ℕ → Bool
 isLend line = areNumbers line (storageLength ∷ [])
 
--- SLOT STATE SID S H R G L0 L1 L2 L3
+-- SLOT STATE SID S H R G L L0 L1 L2 L3
 abbrev pub isRecord : List ℕ → Bool
 isRecord line =
     areNumbers line
-    (lastSlot ∷ lastState ∷ short ∷ counter ∷ counter ∷ counter ∷ counter ∷ short ∷ short ∷ short ∷ short ∷ [])
+    (lastSlot ∷ lastState ∷ short ∷ counter ∷ counter ∷ counter ∷ counter ∷ counter ∷ short ∷ short ∷ short ∷ short ∷ [])
 
 -- ROLE UP
 abbrev pub isEnd : List ℕ → Bool

@@ -14,5 +14,5 @@ stateOf n = getD (State.Closed ∷ State.Established ∷ State.FinSent ∷ State
 abbrev pub statedOf : List ℕ → Session
 statedOf line =
     recordOf (stateOf (valueOf line 2 lastState)) (valueOf line 3 short) (valueOf line 4 counter) (valueOf line 5 counter)
-    (valueOf line 6 counter) (valueOf line 7 counter)
-    (valueOf line 8 short ∷ valueOf line 9 short ∷ valueOf line 10 short ∷ valueOf line 11 short ∷ [])
+    (valueOf line 6 counter) (valueOf line 7 counter) (valueOf line 8 counter)
+    (valueOf line 9 short ∷ valueOf line 10 short ∷ valueOf line 11 short ∷ valueOf line 12 short ∷ [])

@@ -91,7 +91,7 @@ fn is_lend(line: &[u8]) -> bool
     numbers(line, &[limits::STORAGE])
 }
 
-// SLOT STATE SID S H R G L0 L1 L2 L3
+// SLOT STATE SID S H R G L L0 L1 L2 L3
 fn is_record(line: &[u8]) -> bool
     ensures { λ r. ⌜ r ≡ isRecord (now (line .entry)) ⌝ }
 {
@@ -99,6 +99,7 @@ fn is_record(line: &[u8]) -> bool
         limits::SLOT,
         limits::STATE,
         limits::SHORT,
+        limits::COUNTER,
         limits::COUNTER,
         limits::COUNTER,
         limits::COUNTER,

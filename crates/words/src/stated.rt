@@ -22,10 +22,10 @@ pub fn session(line: &[u8]) -> Session
     ensures { λ r. ⌜ r ≡ statedOf (now (line .entry)) ⌝ }
 {
     let lens = [
-        short(line, 8),
         short(line, 9),
         short(line, 10),
         short(line, 11),
+        short(line, 12),
     ];
     Session::of(
         state(value(line, 2, limits::STATE)),
@@ -34,6 +34,7 @@ pub fn session(line: &[u8]) -> Session
         counter(line, 5),
         counter(line, 6),
         counter(line, 7),
+        counter(line, 8),
         lens,
     )
 }

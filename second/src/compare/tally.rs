@@ -1,5 +1,8 @@
-//! How often each answer of each call was seen, and which of document 01's answers never was.
+//! How often each answer of each call was seen, and each case of `cases.rs`; and which of document
+//! 01's answers and of these cases never was.
 
+use super::cases::{Met, CASES};
+use crate::calls::Calls;
 use std::collections::BTreeMap;
 
 /// Every answer that document 01 lists for a call, and those that `feed` can show: its server is
@@ -29,6 +32,9 @@ const COLUMNS: [&str; 25] = [
 
 const OTHER_LINES: [&str; 5] = ["lend", "record", "end", "show", "peek"];
 
+/// Under this word, which is no call, stand the cases.
+const CASE: &str = "case";
+
 #[derive(Default)]
 pub struct Tally {
     seen: BTreeMap<(String, String), usize>,
@@ -40,22 +46,43 @@ impl Tally {
         *self.seen.entry((call.to_string(), answer.to_string())).or_default() += 1;
     }
 
-    /// Counts the answers of `calls` to an input's lines.
-    pub fn add_calls(&mut self, lines: &[Vec<u8>], answers: &[u8]) {
-        let answers = String::from_utf8_lossy(answers);
-        for (line, answer) in lines.iter().zip(answers.lines()) {
+    /// Gives an input's lines to a `calls`, and counts its answers and the cases met.
+    pub fn add_calls(&mut self, lines: &[Vec<u8>]) {
+        let mut calls = Calls::new();
+        for line in lines {
+            let line = line.strip_suffix(b"\n").unwrap_or(line);
+            let text = String::from_utf8_lossy(line);
+            let words: Vec<&str> = text.split(' ').collect();
+            let named = words.get(1).and_then(|word| word.parse().ok());
+            let slot =
+                named.and_then(|sid| calls.end.find(sid)).map(|i| calls.end.slots[i].clone());
+            let answer = calls.answer(line);
+            let answer = answer.split(' ').collect();
             self.lines += 1;
-            let end = line.iter().position(|byte| b" \n".contains(byte)).unwrap_or(line.len());
-            let call = String::from_utf8_lossy(&line[..end]).to_string();
-            let is_call = LISTED.iter().any(|(listed, _)| *listed == call && call != "feed");
-            let is_other = OTHER_LINES.contains(&call.as_str());
-            let first = answer.split(' ').next().unwrap_or("");
-            match (is_call, is_other, first) {
-                (true, _, _) => self.add(&call, first),
-                (_, true, "bad") => self.add(&call, "bad"),
-                (_, true, _) => self.add(&call, "done"),
-                _ => self.add("any other line", first),
-            }
+            self.add_line(&Met { words, answer, slot: slot.unwrap_or_default(), end: &calls.end });
+        }
+    }
+
+    fn add_line(&mut self, met: &Met) {
+        let (call, first) = (met.words[0], met.answer[0]);
+        let is_call = LISTED.iter().any(|(listed, _)| *listed == call && call != "feed");
+        let is_other = OTHER_LINES.contains(&call);
+        match (is_call, is_other, first) {
+            (true, _, _) => self.add(call, first),
+            (_, true, "bad") => self.add(call, "bad"),
+            (_, true, _) => self.add(call, "done"),
+            _ => self.add("any other line", first),
+        }
+        for (name, _) in CASES.iter().filter(|(_, is)| is(met)) {
+            self.add(CASE, name);
+        }
+    }
+
+    /// Adds all that another tally has counted.
+    pub fn join(&mut self, other: Tally) {
+        self.lines += other.lines;
+        for (what, count) in other.seen {
+            *self.seen.entry(what).or_default() += count;
         }
     }
 
@@ -71,7 +98,7 @@ impl Tally {
         self.seen.get(&(call.to_string(), answer.to_string())).copied().unwrap_or(0)
     }
 
-    /// The answers that are listed and never came.
+    /// The answers and cases that are listed and never came.
     pub fn never_seen(&self) -> Vec<String> {
         let mut never = Vec::new();
         for (call, answers) in LISTED {
@@ -79,6 +106,8 @@ impl Tally {
                 never.push(format!("{call} {answer}"));
             }
         }
+        let cases = CASES.iter().map(|(name, _)| *name);
+        never.extend(cases.filter(|name| self.count(CASE, name) == 0).map(str::to_string));
         never
     }
 
@@ -112,6 +141,11 @@ impl Tally {
         for name in OTHER_LINES {
             let (done, bad) = (self.count(name, "done"), self.count(name, "bad"));
             text += &format!(" {name} {done} and {bad} bad;");
+        }
+        text.pop();
+        text += ".\n\nCases:";
+        for (name, _) in CASES {
+            text += &format!(" {name}, {};", self.count(CASE, name));
         }
         text.pop();
         text + ".\n"

@@ -40,12 +40,43 @@ show
 send 0 6f6b 528
 read 0 512 16
 peek 0 8
-take 53040000100000000100000005000000
+take 5308000011000000020000000500000065
+read 0 512 15
+read 0 512 16
+show
+take 53040000100000000200000005000000
 read 0 512 16
 close 0 16
 show
 shutdown
 show
+";
+
+/// Reads with G and L on both sides of the wrap, and records with an L that isn't well made.
+const AROUND_THE_WRAP: &str = "\
+start server
+record 0 1 5 0 4 4294967295 0 4294967295 1 2 3 4
+read 5 512 15
+read 5 512 16
+show
+record 0 1 5 0 4 4294967294 4294967295 4294967295 1 2 3 4
+read 5 512 0
+read 5 512 0
+read 5 512 16
+show
+record 0 3 5 0 4 4294967294 4294967295 4294967294 1 2 3 4
+read 5 512 0
+read 5 512 0
+show
+close 5 16
+show
+record 0 1 5 0 4 4294967295 0 4294967294 1 2 3 4
+read 5 512 16
+record 0 1 5 0 4 4294967294 4294967295 0 1 2 3 4
+read 5 512 16
+record 0 0 0 0 0 0 0 4294967295 0 0 0 0
+show
+shutdown
 ";
 
 pub fn calls() -> Vec<Vec<u8>> {
@@ -60,6 +91,7 @@ pub fn calls() -> Vec<Vec<u8>> {
         b"\0".to_vec(),
         b"show\r\nshow\r".to_vec(),
         CONVERSATION.as_bytes().to_vec(),
+        AROUND_THE_WRAP.as_bytes().to_vec(),
         b"end server 1\nopen 16\nopen 0\nend client 1\nopen 15\nopen 16\nshow\nlend 0\nclose 0 16"
             .to_vec(),
         joined(&[b"start server", &line(LONGEST_LINE - 1), b"show"]),

@@ -62,7 +62,19 @@ pub fn slot(dice: &mut Random, state: u8, sid: u16) -> Slot {
         };
     }
     let (h, g) = (s.wrapping_add(dice.below(5) as u32), r.wrapping_add(dice.below(5) as u32));
-    Slot { state, sid, s, h, r, g, lengths }
+    let l = g.wrapping_sub(dice.below(2) as u32);
+    Slot { state, sid, s, h, r, g, l, lengths }
+}
+
+/// A difference G - L that no well-made record has.
+pub fn too_much_untold(dice: &mut Random) -> u32 {
+    match dice.weighted(&[40, 15, 25, 10, 10]) {
+        0 => 2,
+        1 => 3,
+        2 => 0xffff_ffff,
+        3 => dice.pick(&[4, 0x8000_0000, 0xffff_fffe]),
+        _ => (dice.next() as u32).max(2),
+    }
 }
 
 pub fn used_slots(end: &End) -> Vec<usize> {

@@ -102,9 +102,14 @@ fn break_a_clause(talk: &mut Talk) {
     };
     slot.state = talk.dice.pick(&[ESTABLISHED, FIN_SENT, FIN_RECEIVED]);
     let too_far = talk.dice.pick(&[5, 6, 0x8000_0000, 0xffff_ffff]);
-    match talk.dice.weighted(&[10, 10, 10, 12, 25, 10]) {
+    match talk.dice.weighted(&[10, 10, 10, 12, 25, 10, 15]) {
         0 => slot.h = slot.s.wrapping_add(too_far),
-        1 => slot.g = slot.r.wrapping_add(too_far),
+        1 => {
+            // L goes along, so that only G is wrong.
+            let untold = slot.untold();
+            slot.g = slot.r.wrapping_add(too_far);
+            slot.l = slot.g.wrapping_sub(untold);
+        }
         2 => {
             let place = talk.dice.below(4);
             slot.lengths[place] = talk.dice.pick(&[513, 514, 1_024, 65_535]);
@@ -125,10 +130,11 @@ fn break_a_clause(talk: &mut Talk) {
             }
             slot.h = slot.s.wrapping_add(5);
         }
-        _ => {
+        5 => {
             let role = if talk.ours.end.server { "server" } else { "client" };
             talk.say(format!("end {role} 0"));
         }
+        _ => slot.l = slot.g.wrapping_sub(fields::too_much_untold(&mut talk.dice)),
     }
     talk.record(i, &slot);
 }
@@ -137,13 +143,14 @@ fn break_a_clause(talk: &mut Talk) {
 fn stray_field(dice: &mut Random) -> Slot {
     let mut slot = Slot::default();
     let value = dice.pick(&[1, 4, 512, 0x0100_0000, 0xffff_ffff]);
-    match dice.below(9) {
+    match dice.weighted(&[1, 1, 1, 1, 1, 2, 1, 1, 1, 1]) {
         0 => slot.sid = dice.pick(&[1, 256, 65_535]),
         1 => slot.s = value,
         2 => slot.h = value,
         3 => slot.r = value,
         4 => slot.g = value,
-        place => slot.lengths[place - 5] = dice.pick(&[1, 256, 512, 513]),
+        5 => slot.l = value,
+        place => slot.lengths[place - 6] = dice.pick(&[1, 256, 512, 513]),
     }
     slot
 }

@@ -5,7 +5,9 @@ use super::fields;
 use crate::calls::Calls;
 use crate::packet::{hex, unhex, Header, HEADER, PAYLOAD};
 use crate::random::Random;
-use crate::record::{End, Slot, ESTABLISHED, FIN_RECEIVED, FIN_SENT, PLACES, SLOTS, STORAGE};
+use crate::record::{
+    End, Slot, ESTABLISHED, FIN_RECEIVED, FIN_SENT, PLACES, SLOTS, STORAGE, WINDOW,
+};
 
 /// The most bytes for one `take`, so that its line isn't too long.
 const LARGEST_TAKE: usize = 8_000;
@@ -102,10 +104,21 @@ impl Talk {
         self.emitted(&answer[1]);
     }
 
+    /// A room for a read's ACK. Where the read emits none it is often too short for one, since
+    /// that must not matter.
+    fn ack_room(&mut self, emits_ack: bool) -> String {
+        if emits_ack || self.dice.chance(50) {
+            return self.room(HEADER);
+        }
+        let room = self.dice.below(HEADER);
+        self.number(room)
+    }
+
     pub fn read(&mut self, sid: u16) {
         let waiting = self.ours.end.find(sid).map(|i| &self.ours.end.slots[i]);
         let length = waiting.map_or(0, |slot| slot.lengths[slot.oldest()]);
-        let (room, ack_room) = (self.room(length.into()), self.room(HEADER));
+        let emits_ack = waiting.is_some_and(Slot::read_emits_ack);
+        let (room, ack_room) = (self.room(length.into()), self.ack_room(emits_ack));
         let sid = self.number(sid.into());
         let answer = self.say(format!("read {sid} {room} {ack_room}"));
         self.emitted(&answer[2]);
@@ -239,7 +252,8 @@ impl Talk {
     }
 
     /// Sets our slot `i` and the peer's slot `i` so that they fit together, with nothing on the
-    /// channels: what one has sent the other has received, what one allows the other knows.
+    /// channels: what one has sent the other has received, what one was last told the other has as
+    /// its L. Each may have read one payload since.
     pub fn matching_records(&mut self, i: usize, sid: u16) {
         let mut ours = fields::slot(&mut self.dice, ESTABLISHED, sid);
         let mut peer = fields::slot(&mut self.dice, ESTABLISHED, sid);
@@ -253,8 +267,17 @@ impl Talk {
             ours.r = 0u32.wrapping_sub(self.dice.below(6) as u32);
             ours.g = ours.r.wrapping_add(window);
         }
-        (peer.r, peer.g) = (ours.s, ours.h);
-        (peer.s, peer.h) = (ours.r, ours.g);
+        // Nobody sends more than he was told he may, so that L is never behind R.
+        ours.l = match ours.g == ours.r {
+            true => ours.g,
+            false => ours.g.wrapping_sub(self.dice.below(2) as u32),
+        };
+        (peer.s, peer.h) = (ours.r, ours.l);
+        (peer.r, peer.l) = (ours.s, ours.h);
+        peer.g = match ours.h.wrapping_sub(ours.s) == WINDOW {
+            true => peer.l,
+            false => peer.l.wrapping_add(self.dice.below(2) as u32),
+        };
         // A session that one end has closed, its FIN taken by the other.
         match self.dice.below(10) {
             0 => (ours.state, peer.state) = (FIN_SENT, FIN_RECEIVED),
@@ -266,10 +289,10 @@ impl Talk {
     }
 
     pub fn record(&mut self, i: usize, slot: &Slot) {
-        let Slot { state, sid, s, h, r, g, lengths } = slot;
+        let Slot { state, sid, s, h, r, g, l, lengths } = slot;
         let mut line = "record".to_string();
         let mut words = vec![i, usize::from(*state), usize::from(*sid)];
-        words.extend([s, h, r, g].map(|&counter| counter as usize));
+        words.extend([s, h, r, g, l].map(|&counter| counter as usize));
         words.extend(lengths.map(usize::from));
         for word in words {
             line += &format!(" {}", self.number(word));

@@ -1,23 +1,21 @@
-use mathlib.Core.Path.{refl}
-use lib.ListN.{length-set}
--- What the loop keeps: with the words that are left put, all are put. The measure is how many of the ten are left.
+-- What the loop keeps: with the words that are left put, all are put. The measure is how many are left.
 use Prim.Native.Nat.{ℕ, _+_, _-_, _≤_}
 use native.Mathlib.Omega.{arith}
-use mathlib.Core.Path.{_≡_, sym, ap, _∙_}
+use mathlib.Core.Path.{_≡_, refl, sym, ap, _∙_}
 use mathlib.Core.List.{List}
-use lib.ListN.{length, drop}
+use lib.ListN.{length, drop, length-set}
 use lib.Seq.{sets}
 use borrow.Author.Needs.{needs}
-use Rattle.crossing.specs.Crossing.{slotAt}
+use Rattle.crossing.specs.Crossing.{slotWords, slotAt}
 use Rattle.crossing.proofs.Words.{words-on, words-stop}
 use Rattle.crossing.proofs.put_session.Statement.{statement}
 use Rattle.crossing.proofs.put_session.Tie as tie
 
 abbrev Inv-loop : tie.InvT-loop
-Inv-loop w₀ i a k₀ w k = (k ≤ 10) × ((length w ≡ length w₀) × (sets w (slotAt i + k) (drop k a) ≡ sets w₀ (slotAt i) a))
+Inv-loop w₀ i a k₀ w k = (k ≤ slotWords) × ((length w ≡ length w₀) × (sets w (slotAt i + k) (drop k a) ≡ sets w₀ (slotAt i) a))
 
 abbrev μ-loop : tie.MeasureT-loop
-μ-loop w₀ i a k₀ w k = 10 - k
+μ-loop w₀ i a k₀ w k = slotWords - k
 
 words-of-requires : tie.Need-words-of-requires Inv-loop μ-loop
 words-of-requires c κs = search needs
@@ -52,7 +50,7 @@ loop-less c = search needs
 loop-again : tie.Need-loop-again Inv-loop μ-loop
 loop-again c = let l = c .before .before .before .before .before .loop in
     let a = c .before .before .before .before .before .before .words-of .result in
-    let n : length a ≡ 10 = ap length (c .before .before .before .before .before .before .words-of .ensures) in
+    let n : length a ≡ slotWords = ap length (c .before .before .before .before .before .before .words-of .ensures) in
     let p = c .before .before .put in
     let at = slotAt (c .before .before .before .before .before .before .before .before .args .i) in (
       omega arith,
@@ -68,7 +66,7 @@ same-length c = search needs
 returns : tie.Need-returns Inv-loop μ-loop
 returns c = let l = c .before .loop in
     let a = c .before .before .words-of .result in
-    let n : length a ≡ 10 = ap length (c .before .before .words-of .ensures) in
+    let n : length a ≡ slotWords = ap length (c .before .before .words-of .ensures) in
     let w = c .before .before .before .before .args .w .now in
     let at = slotAt (c .before .before .before .before .args .i) in
     sym (words-stop a (l .w) at (l .k) (omega arith)) ∙ l .inv .1 .1 ∙ ap (λ (v : List ℕ). sets w at v) (c .before .before .words-of .ensures)

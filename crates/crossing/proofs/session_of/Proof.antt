@@ -1,4 +1,4 @@
--- Each part is as `word`, `short` and `lens_of` say; at most 162 words are named.
+-- Each part is as `word`, `short` and `lens_of` say; at most 178 words are named.
 use mathlib.Core.Path.{ap, _∙_}
 use borrow.Author.Needs.{needs}
 use Rattle.crossing.specs.Crossing.{shortOf, stateOf}
@@ -51,6 +51,12 @@ add-word-5 c = search needs
 word-requires-6 : tie.Need-word-requires-6
 word-requires-6 c κs = search needs
 
+add-word-6 : tie.Need-add-word-6
+add-word-6 c = search needs
+
+word-requires-7 : tie.Need-word-requires-7
+word-requires-7 c κs = search needs
+
 add-lens-of : tie.Need-add-lens-of
 add-lens-of c = search needs
 
@@ -61,18 +67,20 @@ of-requires : tie.Need-of-requires
 of-requires c κs = search needs
 
 returns : tie.Need-returns
-returns c = let a = c .before .before .before .before .before .before .before .before .before .before .before .args in
-    let st = c .before .before .before .before .before .before .before .before .state-of in
-    let sid = c .before .before .before .before .before .before .short in
-    let s = c .before .before .before .before .before .word3 in
-    let h = c .before .before .before .before .word4 in
-    let r = c .before .before .before .word5 in
-    let g = c .before .before .word6 in
-    let l = c .before .lens-of in
-    session-made (a .w .now) (a .i) (c .of .result) (st .result) (sid .result) (s .result) (h .result) (r .result) (g .result) (l .result) (c .of .ensures)
-    (st .ensures ∙ ap stateOf (c .before .before .before .before .before .before .before .before .before .word .ensures))
-    (sid .ensures ∙ ap shortOf (c .before .before .before .before .before .before .before .word2 .ensures))
-    (s .ensures) (h .ensures) (r .ensures) (g .ensures) (l .ensures)
+returns c = let a = c .before .before .before .before .before .before .before .before .before .before .before .before .args in
+    let st = c .before .before .before .before .before .before .before .before .before .state-of in
+    let sid = c .before .before .before .before .before .before .before .short in
+    let s = c .before .before .before .before .before .before .word3 in
+    let h = c .before .before .before .before .before .word4 in
+    let r = c .before .before .before .before .word5 in
+    let g = c .before .before .before .word6 in
+    let l = c .before .before .word7 in
+    let lens = c .before .lens-of in
+    session-made (a .w .now) (a .i) (c .of .result) (st .result) (sid .result) (s .result) (h .result) (r .result) (g .result) (l .result)
+    (lens .result) (c .of .ensures)
+    (st .ensures ∙ ap stateOf (c .before .before .before .before .before .before .before .before .before .before .word .ensures))
+    (sid .ensures ∙ ap shortOf (c .before .before .before .before .before .before .before .before .word2 .ensures))
+    (s .ensures) (h .ensures) (r .ensures) (g .ensures) (l .ensures) (lens .ensures)
 
 pub session-of-spec : {M : Type 1} → statement M
 session-of-spec =
@@ -93,6 +101,8 @@ session-of-spec =
     word-requires-5
     add-word-5
     word-requires-6
+    add-word-6
+    word-requires-7
     add-lens-of
     lens-of-requires
     of-requires

@@ -3,17 +3,17 @@
 use Prim.Native.Nat.{ℕ, zero, suc, _+_, _≤_, _<_}
 use native.Mathlib.Omega.{arith}
 use mathlib.Core.Path.{_≡_, refl, sym, ap, _∙_, subst}
-use mathlib.Core.Bool.{Bool, true, false, not}
+use mathlib.Core.Bool.{Bool, true, false, not, _&&_, and-false}
 use mathlib.Core.List.{List, [], _∷_, _++_, append-nil}
 use lib.ListN.{length, length-append, length-map, length-take, length-drop, replicate}
-use lib.Dec.{T, eqb, ltb}
+use lib.Dec.{T, eqb}
 use borrow.Author.Tests.{le-ltb}
 use Rattle.wire.specs.Packet.{headerLength}
-use Rattle.session.specs.Record.{inUse, finSent}
+use Rattle.session.specs.Record.{inUse, established, finSent}
 use Rattle.table.specs.Limits.{Limits}
 use Rattle.table.specs.Storage.{storageLength}
 use Rattle.pair.specs.Side.{Side, client, server, other}
-use Rattle.pair.proofs.Lane.Half.{Bytes, Packet, dat, ack, fin, St, est, fs, fr, gone, Body, accOf, Out, Room, cramped, later, read}
+use Rattle.pair.proofs.Lane.Half.{Bytes, Packet, dat, ack, fin, St, est, fs, fr, gone, Body, accOf, Out, Room, later, due}
 use Rattle.pair.proofs.Lane.Lane.{get, deliver, Lane, stOf, half, toward}
 use Rattle.pair.proofs.Lane.Inv.{closes, ended, keeps, Dir, none-lost, Good}
 use Rattle.pair.proofs.Lane.Takes.{passed}
@@ -32,7 +32,7 @@ use Rattle.pair.specs.History.{Scene, entry, history, final}
 use Rattle.pair.specs.Claims.{own, accepted, slotAt, Holds, Enough}
 use Rattle.pair.specs.Placed.{onWay, unreadIn}
 use Rattle.pair.specs.Drained.{takes, reads, Drained}
-use Rattle.pair.proofs.Record.Stands.{stateOf, open-keeps}
+use Rattle.pair.proofs.Record.Stands.{stateOf, live-used, open-keeps}
 use Rattle.pair.proofs.Mirror.Scene.{markOf, SlotFor, Mirror}
 use Rattle.pair.proofs.Mirror.Facts.{lane-stands}
 use Rattle.pair.proofs.Mirror.Sides.{with-own}
@@ -44,7 +44,7 @@ use Rattle.pair.proofs.History.Along.{Along, over, rests, acts, at-end,
 use Rattle.pair.proofs.History.Events.{half-received, half-accepted, half-closed}
 use Rattle.pair.proofs.History.Holding.{none-left, held}
 use Rattle.pair.proofs.History.Placed.{placed}
-use Rattle.pair.proofs.History.Progress.{given-whole, read-fits}
+use Rattle.pair.proofs.History.Progress.{given-whole, read-hands, read-fits}
 
 -- ---- halves
 
@@ -73,13 +73,9 @@ passed-keeps fs p B t e = absurd t
 passed-keeps fr p B t e = absurd e
 passed-keeps gone p B t e = absurd t
 
--- a read with room enough hands over the oldest, in the state that it was in
-read-out : (s : St) (R : Room) (B : Body) (p : Bytes) (u : List Bytes) → T (keeps s) → B .unread ≡ p ∷ u → cramped R p ≡ false → ltb (R .buf) 16 ≡ false
-    → (read R s B .st ≡ s) × (read R s B .body ≡ later B p u)
-read-out est R B p u t e c b = rw (e, c, b) (refl, refl)
-read-out fr R B p u t e c b = rw (e, c) (refl, refl)
-read-out fs R B p u t e c b = absurd t
-read-out gone R B p u t e c b = absurd t
+-- room for any ACK is room for one that is due
+spared : (t : Bool) {b : Bool} → b ≡ false → t && b ≡ false
+spared t e = rw e (and-false t)
 
 -- ---- runs in a row
 
@@ -248,17 +244,19 @@ module _ (slots : ℕ) (lim : Limits) (k : Side) (n room ack lent : ℕ) (wide :
       by (p ∷ u) q =
           let d = acted-reading m (record { listed = listed; name = name }) room ack lent in
           let f = m .at k .found n listed in
-          let o = read-out (stOf k (W .lanes n)) R (half k (W .lanes n)) p u t q
-          (read-fits m k (f .index) n (holds-of m f) (shown f) room ack lent wide z p u q) (le-ltb ack 16 some) in
+          let o = read-hands (stOf k (W .lanes n)) R (half k (W .lanes n)) p u (keeps-open (stOf k (W .lanes n)) t)
+          (live-used (stOf k (W .lanes n)) (keeps-live (stOf k (W .lanes n)) t)) q
+          (read-fits m k (f .index) n (holds-of m f) (shown f) room ack lent wide z p u q)
+          (spared (established (stateOf (stOf k (W .lanes n))) && due (later (half k (W .lanes n)) p u)) (le-ltb ack 16 some)) in
           let v = their-half W k n (get R) n in
           let L = lanes.own W k n (get R) .lanes n in
-          let after : (stOf k L ≡ stOf k (W .lanes n)) × (half k L ≡ later (half k (W .lanes n)) p u) =
-          own-half W k n (get R) (λ (s : St) (B : Body). (s ≡ stOf k (W .lanes n)) × (B ≡ later (half k (W .lanes n)) p u)) o in
+          let after : (stOf k L ≡ stOf k (W .lanes n)) × (half k L .unread ≡ u) =
+          own-half W k n (get R) (λ (s : St) (B : Body). (s ≡ stOf k (W .lanes n)) × (B .unread ≡ u)) (o .state, o .left) in
           goes-on {k = k} m (reading (record { listed = listed; name = name })) d refl (v .st) (v .body)
           (subst (λ (l : List Item). Leads slots lim k n (Read-out k n l) (entry lim x (record { side = k; call = Read sid room ack lent }) .after)
           (lanes.own W k n (get R)) (replicate r (record { side = k; call = Read sid room ack lent }))) (own-chan W n (get R) k)
           (go _ _ name (d .mirror) (omega (arith, own-bound W n (get R) k k)) (subst (λ (s : St). T (keeps s)) (sym (after .0)) t)
-          (ap (λ (B : Body). length (B .unread)) (after .1) ∙ omega (arith, ap length q)) (enough-after m k lent (d .mirror) (d .lengths) z)))
+          (ap length (after .1) ∙ omega (arith, ap length q)) (enough-after m k lent (d .mirror) (d .lengths) z)))
 
   pub reads-lead : (sid r : ℕ) → Reads sid r
   reads-lead sid zero = λ x W name m b t e z. stays m b t (none-left (half k (W .lanes n) .unread) e, refl)
@@ -282,7 +280,7 @@ module _ (L : Lane) (i : Good L) (k : Side) (t : T (keeps (stOf k L))) (e : towa
       by : (s : St) → T (keeps s) → stOf k L ≡ s → stOf k L ≡ fr
       by est t q = absurd (open-end (rw (q, e) at (seen L i k .bwd)) c)
         where
-          open-end : {sx : St} {a : List Bytes} {g : ℕ} {got un : List Bytes} {hi : ℕ} → Dir sx a g [] est got un hi → T (closes sx) → ⊥
+          open-end : {sx : St} {a : List Bytes} {g l : ℕ} {got un : List Bytes} {hi : ℕ} → Dir sx a g l [] est got un hi → T (closes sx) → ⊥
           open-end {sx} d c = not-both (closes sx) (d .flow .0) c
       by fr t q = q
       by fs t q = absurd t

@@ -105,7 +105,7 @@ module _ {slots : ℕ} {lim : Limits} {x : Scene} {W : World} where
     got =
         ap (λ (r : Reply). done (r .number) (r .payload ∷ []) []) (d .reply)
         ∙ read-all (λ (o : Out). done (o .ans) (handed (o .pay) ∷ []) [] ≡ gave (o .pay)) (half k (W .lanes n)) _ (stOf k (W .lanes n))
-        (λ a t u. done-not a _ _ (omega (arith, leb→le 4 a t))) (λ e p u q. refl) (λ e p u q. refl);
+        (λ a t u. done-not a _ _ (omega (arith, leb→le 4 a t))) (λ e p u q d. refl) (λ e p u q d. refl) (λ e p u q. refl);
     told = λ j t. (t .side, tt, sym (ap (λ (r : Reply). r .number) (d .reply)) ∙ t .number);
     ends = λ j t. absurd (t .close);
     ended = λ j t. absurd (t .1);

@@ -1,5 +1,5 @@
 -- What a slot that holds a session says of its lane, at a mirrored scene: a read in FIN RECEIVED with nothing unread is told 11; and where
--- both halves are ESTABLISHED, nothing is on its way and the other side has read all, the window is open, and a send is accepted.
+-- both halves are ESTABLISHED, nothing is on its way and the other side has read all, the window is 3 or 4, and a send is accepted.
 use Prim.Native.Nat.{ℕ, _+_, _≤_}
 use native.Mathlib.Omega.{arith}
 use mathlib.Core.Path.{_≡_, refl, sym, ap, _∙_, subst}
@@ -7,23 +7,23 @@ use mathlib.Core.Bool.{true, false}
 use mathlib.Core.List.{List, [], _∷_}
 use lib.ListN.{length}
 use lib.Dec.{T}
-use borrow.Author.Tests.{le-ltb, lt-leb}
+use borrow.Author.Tests.{le-ltb}
 use Rattle.wire.specs.Packet.{headerLength}
 use Rattle.session.specs.declared.record.State.the-variants.{Established}
 use Rattle.session.specs.Counter.{minus}
-use Rattle.session.specs.Record.{finSent, inUse, unread}
+use Rattle.session.specs.Record.{window, finSent, inUse, unread}
 use Rattle.table.specs.Limits.{Limits}
 use Rattle.pair.specs.Side.{Side, other}
-use Rattle.pair.proofs.Lane.Half.{St, est, fr, sOf, send}
-use Rattle.pair.proofs.Lane.Lane.{get, stOf, half}
+use Rattle.pair.proofs.Lane.Half.{St, est, fr, Out}
+use Rattle.pair.proofs.Lane.Lane.{get, stOf, half, toward}
 use Rattle.pair.proofs.Lane.Inv.{closes}
-use Rattle.pair.proofs.Lane.Story.{window-opens}
+use Rattle.pair.proofs.Lane.Story.{window-opens, window-sends}
 use Rattle.pair.proofs.Lane.Told.{told-eleven, told-at}
 use Rattle.pair.proofs.Lane.World.{pick, World}
 use Rattle.pair.specs.Step.{Send, Read, Reply, replyTo}
 use Rattle.pair.specs.History.{Scene}
 use Rattle.pair.specs.Claims.{slotAt, Holds}
-use Rattle.pair.proofs.Record.Stands.{stateOf, whole-window, unread-counts, state-one}
+use Rattle.pair.proofs.Record.Stands.{stateOf, opened-window, unread-counts, state-one}
 use Rattle.pair.proofs.Mirror.Scene.{Filled, Mirror}
 use Rattle.pair.proofs.Mirror.Facts.{ranges-of}
 use Rattle.pair.proofs.Mirror.Channels.{no-items}
@@ -71,19 +71,19 @@ module _ {slots : ℕ} {lim : Limits} {x : Scene} {W : World} (m : Mirror slots 
     both : (k : Side) → stOf k (W .lanes n) ≡ est
     both k = held-state k (i k) n (h k) est (e k)
 
-    opens : half k (W .lanes n) .high ≡ sOf (half k (W .lanes n)) + 4
-    opens =
-        window-opens (W .lanes n) (m .inv .good n) both (λ k. sym (m .inv .queue k n) ∙ ap (pick n) (no-items m k (c k))) k
-        (held-read (other k) (i (other k)) n (h (other k)) est (both (other k)) refl refl z)
+    nothing : (k : Side) → toward k (W .lanes n) ≡ []
+    nothing k = sym (m .inv .queue k n) ∙ ap (pick n) (no-items m k (c k))
 
-    pub window-open : minus (slotAt x k (i k) .h) (slotAt x k (i k) .s) ≡ 4
-    window-open = whole-window (held k (i k) n (h k) .stands) (ranges-of m k n) opens
+    all-read : half (other k) (W .lanes n) .unread ≡ []
+    all-read = held-read (other k) (i (other k)) n (h (other k)) est (both (other k)) refl refl z
+
+    pub window-open : (3 ≤ minus (slotAt x k (i k) .h) (slotAt x k (i k) .s)) × (minus (slotAt x k (i k) .h) (slotAt x k (i k) .s) ≤ window)
+    window-open = opened-window (held k (i k) n (h k) .stands) (ranges-of m k n) (window-opens (W .lanes n) (m .inv .good n) both nothing k all-read)
 
     pub send-accepted : (payload : List ℕ) (room : ℕ) → length payload ≤ lim .place → headerLength + length payload ≤ room
         → replyTo lim (record { side = k; call = Send (slotAt x k (i k) .sid) payload room }) (x .world) .number ≡ 0
     send-accepted payload room f g =
         let a = held k (i k) n (h k) in
-        let B = half k (W .lanes n) in
         ap (λ (r : Reply). r .number) (acted-sending m (record { listed = a .listed; name = sym (a .stands .sid) }) payload room .reply)
-        ∙ ap (λ (s : St). send payload (sendRoom lim payload room) s B .ans) (both k)
-        ∙ rw (le-ltb (lim .place) (length payload) f, lt-leb (B .high) (sOf B) (omega (arith, opens)), le-ltb room (headerLength + length payload) g)
+        ∙ ap (λ (o : Out). o .ans) (window-sends (W .lanes n) (m .inv .good n) both nothing k all-read payload (sendRoom lim payload room)
+        (rw (le-ltb (lim .place) (length payload) f) tt) (rw (le-ltb room (headerLength + length payload) g) tt))

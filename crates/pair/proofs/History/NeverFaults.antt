@@ -41,7 +41,7 @@ Mild o = T (harmless (o .ans))
 
 turn-mild : (sid : ℕ) (c : lane.Call) (s : St) (B : Body) (l : List Packet) → T (harmless (turnReply sid c (move c s B l .out) l .number))
 turn-mild sid (put p R) s B l = send-all Mild B p R s (λ n a b. b) (λ e a b. tt)
-turn-mild sid (get R) s B l = read-all Mild B R s (λ n a b. b) (λ e p u q. tt) (λ e p u q. tt)
+turn-mild sid (get R) s B l = read-all Mild B R s (λ n a b. b) (λ e p u q d. tt) (λ e p u q d. tt) (λ e p u q. tt)
 turn-mild sid (shut R) s B l = close-all Mild B R s (λ n a b. b) (λ e. tt) (λ e. tt)
 turn-mild sid deliver s B l = head-mild sid l
 

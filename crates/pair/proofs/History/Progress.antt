@@ -4,7 +4,7 @@ use Prim.Native.Nat.{ℕ, suc, _+_, _≤_}
 use native.Mathlib.Omega.{arith}
 use mathlib.Core.Path.{_≡_, refl, sym, ap, _∙_}
 use mathlib.Core.Logic.{_≢_}
-use mathlib.Core.Bool.{true, false}
+use mathlib.Core.Bool.{Bool, true, false, _&&_}
 use mathlib.Core.List.{List, [], _∷_, map}
 use lib.ListN.{length, length-append, getD}
 use lib.Dec.{ltb}
@@ -12,12 +12,15 @@ use borrow.Author.Tests.{le-ltb, ne-eqb}
 use Rattle.cases.proofs.Tests.{never}
 use Rattle.wire.specs.Packet.{headerLength}
 use Rattle.session.specs.declared.record.State.the-variants.{Established}
-use Rattle.session.specs.Record.{finSent, inUse, unread}
+use Rattle.session.specs.Record.{established, finSent, inUse, unread}
+use Rattle.session.specs.Notice as notice
 use Rattle.session.proofs.Wrap.{same-counts}
 use Rattle.table.specs.Slots.{full}
 use Rattle.table.specs.Limits.{Limits}
 use Rattle.pair.specs.Side.{Side, client, server}
-use Rattle.pair.proofs.Lane.Half.{Packet, dat, Bytes, St, est, fs, fr, gone, Body, Out, Room, sOf, gOf, shut, cramped, goes, send, read, close}
+use Rattle.pair.proofs.Lane.Half.{Packet, dat, Bytes, St, est, fs, fr, gone, Body, Out, Room, sOf, gOf, shut, cramped, later, due, goes, send}
+use Rattle.pair.proofs.Lane.Half.{read, close}
+use Rattle.pair.proofs.Lane.Outcomes.{one-all}
 use Rattle.pair.proofs.Lane.Lane.{stOf, half}
 use Rattle.pair.proofs.Lane.World.{Item, syn, pkt, World}
 use Rattle.pair.proofs.Lane.Heads.{no-syn, packet-toward}
@@ -29,6 +32,7 @@ use Rattle.pair.specs.History.{Scene}
 use Rattle.pair.proofs.Mirror.Scene.{markOf, Mirror}
 use Rattle.pair.proofs.Mirror.Channels.{bytesOf, front-bytes}
 use Rattle.pair.proofs.Record.Stands.{stateOf, s-is, h-is, unread-counts, unread-bound}
+use Rattle.pair.proofs.Record.Calls.{due-is}
 use Rattle.pair.proofs.Mirror.Facts.{tooShort, ranges-of, room-full, short-is}
 use Rattle.pair.proofs.Steps.Performs.{Given, opening, greeting, taking, headReply, sendRoom, readRoom, closeRoom}
 use Rattle.pair.proofs.Steps.Classify.{performs-acts}
@@ -73,12 +77,20 @@ module _ {slots : ℕ} {lim : Limits} {x : Scene} {W : World} (m : Mirror slots 
 
 -- ---- halves
 
-read-zero : (s : St) (R : Room) (B : Body) (p : Bytes) (u : List Bytes) → finSent (stateOf s) ≡ false → inUse (stateOf s) ≡ true → B .unread ≡ p ∷ u
-    → cramped R p ≡ false → ltb (R .buf) 16 ≡ false → read R s B .ans ≡ 0
-read-zero est R B p u f v e c b = rw (e, c, b)
-read-zero fr R B p u f v e c b = rw (e, c)
-read-zero fs R B p u f v e c b = never (sym f)
-read-zero gone R B p u f v e c b = never v
+-- a read with room enough for the payload, and for an ACK where one is due, hands over the oldest, in the state that it was in
+pub record Handed (s : St) (u : List Bytes) (o : Out) : Type 0 where
+  pub zero : o .ans ≡ 0
+  pub state : o .st ≡ s
+  pub left : o .body .unread ≡ u
+
+pub read-hands : (s : St) (R : Room) (B : Body) (p : Bytes) (u : List Bytes) → finSent (stateOf s) ≡ false → inUse (stateOf s) ≡ true → B .unread ≡ p ∷ u
+    → cramped R p ≡ false → (established (stateOf s) && due (later B p u)) && ltb (R .buf) 16 ≡ false → Handed s u (read R s B)
+read-hands est R B p u f v e c b =
+    rw (e, c, b)
+    (one-all (Handed est u) B (later B p u) p (λ t. record { zero = refl; state = refl; left = refl }) (λ t. record { zero = refl; state = refl; left = refl }))
+read-hands fr R B p u f v e c b = rw (e, c) (record { zero = refl; state = refl; left = refl })
+read-hands fs R B p u f v e c b = never (sym f)
+read-hands gone R B p u f v e c b = never v
 
 close-zero : (s : St) (R : Room) (B : Body) → finSent (stateOf s) ≡ false → inUse (stateOf s) ≡ true → ltb (R .buf) 16 ≡ false → close R s B .ans ≡ 0
 close-zero est R B f v b = rw b
@@ -112,18 +124,25 @@ module _ {slots : ℕ} {lim : Limits} {x : Scene} {W : World} (m : Mirror slots 
         let small = unread-bound (held m k i n h .stands) 0 (omega (arith, ap length e)) in
         rw (le-ltb room (length p) (omega (arith, small, ap length first)), lent-long m k lent s)
 
-    pub read-goes : unread (slotAt x k i) ≢ 0 → (room ack lent : ℕ) → lim .place ≤ room → headerLength ≤ ack → Enough lim x k lent
+    pub read-goes : unread (slotAt x k i) ≢ 0 → (room ack lent : ℕ) → lim .place ≤ room → (notice.due (slotAt x k i) ≡ true → headerLength ≤ ack)
+        → Enough lim x k lent
         → replyTo lim (record { side = k; call = Read (slotAt x k i .sid) room ack lent }) (x .world) .number ≡ 0
     read-goes u room ack lent r a s =
         let b = held m k i n h in
         ap (λ (r : Reply). r .number) (acted-reading m (record { listed = b .listed; name = sym (b .stands .sid) }) room ack lent .reply)
         ∙ by (half k (W .lanes n) .unread) refl
       where
+        -- where an ACK is due there is room for it
+        heard : (t : Bool) → notice.due (slotAt x k i) ≡ t → t && ltb ack 16 ≡ false
+        heard true d = le-ltb ack 16 (a d)
+        heard false d = refl
+
         by : (q : List Bytes) → half k (W .lanes n) .unread ≡ q
             → read (readRoom slots lim room ack lent (length (x .world k .storage))) (stOf k (W .lanes n)) (half k (W .lanes n)) .ans ≡ 0
         by [] e = absurd (u (unread-counts (held m k i n h .stands) (ranges-of m k n) open-half used-half ∙ ap length e))
         by (p ∷ q) e =
-            read-zero (stOf k (W .lanes n)) _ (half k (W .lanes n)) p q open-half used-half e (read-fits room ack lent r s p q e) (le-ltb ack 16 a)
+            read-hands (stOf k (W .lanes n)) _ (half k (W .lanes n)) p q open-half used-half e (read-fits room ack lent r s p q e)
+            (ap (λ (t : Bool). t && ltb ack 16) (sym (due-is (held m k i n h .stands) p q e (ranges-of m k n))) ∙ heard _ refl) .zero
 
   -- in ESTABLISHED, the window open
   pub send-goes : (k : Side) (i n : ℕ) → Holds x k i n → slotAt x k i .state ≡ Established → slotAt x k i .s ≢ slotAt x k i .h → (payload : List ℕ) (room : ℕ)

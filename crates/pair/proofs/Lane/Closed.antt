@@ -39,7 +39,8 @@ passed-open gone p X i t = inl tt
 module _ {sy : St} {Y : Body} {xy : List Packet} where
   move-open : (c : Call) (s : St) (X : Body) (l : List Packet) → Inv s X sy Y xy l → Shuts c s (move c s X l .out)
   move-open (put p R) s X l i = send-all (Shuts (put p R) s) X p R s (λ n a b t. inl t) (λ e a b t. absurd t)
-  move-open (get R) s X l i = read-all (Shuts (get R) s) X R s (λ n a b t. inl t) (λ e p u q t. absurd t) (λ e p u q t. absurd t)
+  move-open (get R) s X l i =
+      read-all (Shuts (get R) s) X R s (λ n a b t. inl t) (λ e p u q d t. absurd t) (λ e p u q d t. absurd t) (λ e p u q t. absurd t)
   move-open (shut R) s X l i = close-all (Shuts (shut R) s) X R s (λ n a b t. inl t) (λ e t. inr (tt, refl)) (λ e t. inr (tt, refl))
   move-open deliver s X [] i = λ t. inl t
   move-open deliver s X (p ∷ l) i = rw (passes s p X i) (passed-open s p X i)

@@ -33,7 +33,8 @@ deliver-ended (p ∷ l) gone B t = tt
 
 move-ended : (c : Call) (s : St) (B : Body) (l : List Packet) → T (ended s) → T (ended (move c s B l .out .st))
 move-ended (put p R) s B l t = send-all (λ (o : Out). T (ended (o .st))) B p R s (λ n a b. t) (λ e a b. absurd (rw e at t))
-move-ended (get R) s B l t = read-all (λ (o : Out). T (ended (o .st))) B R s (λ n a b. t) (λ e p u q. absurd (rw e at t)) (λ e p u q. tt)
+move-ended (get R) s B l t =
+    read-all (λ (o : Out). T (ended (o .st))) B R s (λ n a b. t) (λ e p u q d. absurd (rw e at t)) (λ e p u q d. absurd (rw e at t)) (λ e p u q. tt)
 move-ended (shut R) s B l t = close-all (λ (o : Out). T (ended (o .st))) B R s (λ n a b. t) (λ e. absurd (rw e at t)) (λ e. tt)
 move-ended deliver s B l t = deliver-ended l s B t
 

@@ -1,8 +1,9 @@
 -- One half of a session with counters that don't wrap: what each call and each packet does to it. It stands for a record in the proof of demand 3.
 -- The counters are not stored: S is the number of payloads that went out, G is 4 more than those handed over by read,
--- R is those handed over and those unread. H (high) is stored.
+-- R is those handed over and those unread. H (high) and L (last, the window last announced) are stored.
 use Prim.Native.Nat.{ℕ, suc, _+_}
-use mathlib.Core.Bool.{Bool, true, false, not, _&&_, _||_}
+use mathlib.Core.Path.{_≡_, refl}
+use mathlib.Core.Bool.{Bool, true, false, not, cond, _&&_, _||_}
 use mathlib.Core.List.{List, [], _∷_, _++_}
 use mathlib.Core.Option.{Option, none, some}
 use lib.ListN.{length}
@@ -35,6 +36,7 @@ pub record Body : Type 0 where
   pub got : List Bytes
   pub unread : List Bytes
   pub high : ℕ
+  pub last : ℕ
 
 -- the payloads accepted, in their order: each goes out at once
 abbrev pub accOf : Body → List Bytes
@@ -50,7 +52,11 @@ abbrev pub rOf : Body → ℕ
 rOf B = length (B .got) + length (B .unread)
 
 abbrev pub fresh : Body
-fresh = record { sent = []; got = []; unread = []; high = 4 }
+fresh = record { sent = []; got = []; unread = []; high = 4; last = 4 }
+
+-- L set to G: after a packet, whose WNDW is G, went out, and after a read in FIN RECEIVED
+abbrev pub said : Body → Body
+said B = record { sent = B .sent; got = B .got; unread = B .unread; high = B .high; last = gOf B }
 
 -- what a step gives back: the number, the half, the packet emitted, the payload handed over
 pub record Out : Type 0 where
@@ -72,6 +78,10 @@ pub unless-all : (P : Out → Type 0) (b : Bool) (n : ℕ) (s : St) (B : Body) (
 unless-all P true n s B o x y = x
 unless-all P false n s B o x y = y tt
 
+pub unless-past : (b : Bool) (n : ℕ) (s : St) (B : Body) (o : Out) → T (not b) → unless b n s B o ≡ o
+unless-past true n s B o t = absurd t
+unless-past false n s B o t = refl
+
 -- what a half sees of the things lent: room for the packet and for the payload read, whether the storage is too short,
 -- and whether the payload to send is over the limit
 pub record Room : Type 0 where
@@ -87,7 +97,7 @@ abbrev pub goes : Body → Bytes → Out
 goes B p = record {
   ans = 0;
   st = est;
-  body = record { sent = B .sent ++ (p ∷ []); got = B .got; unread = B .unread; high = B .high };
+  body = record { sent = B .sent ++ (p ∷ []); got = B .got; unread = B .unread; high = B .high; last = gOf B };
   emit = some (dat (suc (sOf B)) (gOf B) p);
   pay = none;
 }
@@ -107,24 +117,35 @@ send p R gone B = refuse 4 gone B
 -- ---- read: 8 or 11, 9
 
 abbrev pub later : Body → Bytes → List Bytes → Body
-later B p u = record { sent = B .sent; got = B .got ++ (p ∷ []); unread = u; high = B .high }
+later B p u = record { sent = B .sent; got = B .got ++ (p ∷ []); unread = u; high = B .high; last = B .last }
+
+-- of the half after a read in ESTABLISHED: does an ACK go out? Its G is two or more past L
+abbrev pub due : Body → Bool
+due B = leb (2 + B .last) (gOf B)
 
 abbrev pub cramped : Room → Bytes → Bool
 cramped R p = ltb (R .pay) (length p) || R .short
 
-abbrev pub readOne : Body → Bytes → List Bytes → Out
-readOne B p u = record { ans = 0; st = est; body = later B p u; emit = some (ack (sOf B) (gOf (later B p u))); pay = some p }
+-- what a read gives, by the half after it: with an ACK, in silence, and in FIN RECEIVED
+abbrev pub noticed : Body → Bytes → Out
+noticed B p = record { ans = 0; st = est; body = said B; emit = some (ack (sOf B) (gOf B)); pay = some p }
 
-abbrev pub readLast : Body → Bytes → List Bytes → Out
-readLast B p u = record { ans = 0; st = fr; body = later B p u; emit = none; pay = some p }
+abbrev pub quiet : Body → Bytes → Out
+quiet B p = record { ans = 0; st = est; body = B; emit = none; pay = some p }
+
+abbrev pub readOne : Body → Bytes → Out
+readOne B p = cond (due B) (noticed B p) (quiet B p)
+
+abbrev pub readLast : Body → Bytes → Out
+readLast B p = record { ans = 0; st = fr; body = said B; emit = none; pay = some p }
 
 abbrev pub readE : List Bytes → Room → Body → Out
 readE [] R B = refuse 8 est B
-readE (p ∷ u) R B = unless (cramped R p || ltb (R .buf) 16) 9 est B (readOne B p u)
+readE (p ∷ u) R B = unless (cramped R p || (due (later B p u) && ltb (R .buf) 16)) 9 est B (readOne (later B p u) p)
 
 abbrev pub readR : List Bytes → Room → Body → Out
 readR [] R B = refuse 11 fr B
-readR (p ∷ u) R B = unless (cramped R p) 9 fr B (readLast B p u)
+readR (p ∷ u) R B = unless (cramped R p) 9 fr B (readLast (later B p u) p)
 
 abbrev pub read : Room → St → Body → Out
 read R est B = readE (B .unread) R B
@@ -135,7 +156,7 @@ read R gone B = refuse 4 gone B
 -- ---- close: 9
 
 abbrev pub ending : St → Body → Out
-ending s B = record { ans = 0; st = s; body = B; emit = some (fin (sOf B) (gOf B)); pay = none }
+ending s B = record { ans = 0; st = s; body = said B; emit = some (fin (sOf B) (gOf B)); pay = none }
 
 abbrev pub close : Room → St → Body → Out
 close R est B = unless (ltb (R .buf) 16) 9 est B (ending fs B)
@@ -164,10 +185,10 @@ abbrev pub plain : St → Body → Out
 plain s B = record { ans = 0; st = s; body = B; emit = none; pay = none }
 
 abbrev pub stored : Body → ℕ → Bytes → Body
-stored B v p = record { sent = B .sent; got = B .got; unread = B .unread ++ (p ∷ []); high = v }
+stored B v p = record { sent = B .sent; got = B .got; unread = B .unread ++ (p ∷ []); high = v; last = B .last }
 
 abbrev pub raised : Body → ℕ → Body
-raised B v = record { sent = B .sent; got = B .got; unread = B .unread; high = v }
+raised B v = record { sent = B .sent; got = B .got; unread = B .unread; high = v; last = B .last }
 
 abbrev pub take : St → Packet → Body → Out
 take est (dat q v p) B = checked (winOk B v) (nextOk B q) B (plain est (stored B v p))

@@ -76,16 +76,16 @@ abbrev pub Kept : Bool → List Bytes → ℕ → ℕ → Type 0
 Kept true lost w h = (lost ≡ []) × (w ≡ h)
 Kept false lost w h = Unit
 
--- in ESTABLISHED the last WNDW sent is G
+-- in ESTABLISHED the last WNDW sent is L
 abbrev pub News : St → ℕ → ℕ → Type 0
-News est t g = t ≡ g
-News fs t g = Unit
-News fr t g = Unit
-News gone t g = Unit
+News est t a = t ≡ a
+News fs t a = Unit
+News fr t a = Unit
+News gone t a = Unit
 
--- one direction: the writer's state, what went out (sent) and its G (g); the packets in flight (l); the reader's state,
+-- one direction: the writer's state, what went out (sent), its G (g) and its L (a); the packets in flight (l); the reader's state,
 -- payloads handed over and unread, and H. `lost`: what the reader ignored; `w`: the last WNDW that arrived; `t`: the last sent.
-pub record Dir (sx : St) (sent : List Bytes) (g : ℕ) (l : List Packet) (s : St) (got unread : List Bytes) (h : ℕ) : Type 0 where
+pub record Dir (sx : St) (sent : List Bytes) (g a : ℕ) (l : List Packet) (s : St) (got unread : List Bytes) (h : ℕ) : Type 0 where
   pub lost : List Bytes
   pub w : ℕ
   pub t : ℕ
@@ -93,16 +93,22 @@ pub record Dir (sx : St) (sent : List Bytes) (g : ℕ) (l : List Packet) (s : St
   pub low : h ≤ w
   pub mid : w ≤ t
   pub top : t ≤ g
-  pub news : News sx t g
+  pub news : News sx t a
   pub kept : Kept (keeps s) lost w h
   pub flow : Gate (ended s) (closes sx) (length got + length unread + length lost) w l t
 
 abbrev pub Way : St → Body → List Packet → St → Body → Type 0
-Way sx X l sy Y = Dir sx (X .sent) (gOf X) l sy (Y .got) (Y .unread) (Y .high)
+Way sx X l sy Y = Dir sx (X .sent) (gOf X) (X .last) l sy (Y .got) (Y .unread) (Y .high)
+
+-- of one half: S ≤ H, and L is G or one less
+pub record Fits (X : Body) : Type 0 where
+  pub fit : sOf X ≤ X .high
+  pub said : X .last ≤ gOf X
+  pub near : gOf X ≤ suc (X .last)
 
 pub record Inv (sx : St) (X : Body) (sy : St) (Y : Body) (xy yx : List Packet) : Type 0 where
-  pub fitX : sOf X ≤ X .high
-  pub fitY : sOf Y ≤ Y .high
+  pub fitX : Fits X
+  pub fitY : Fits Y
   pub fwd : Way sx X xy sy Y
   pub bwd : Way sy Y yx sx X
 
@@ -112,13 +118,13 @@ Good L = Inv (L .sc) (L .C) (L .ss) (L .S) (L .up) (L .down)
 pub swap : {sx : St} {X : Body} {sy : St} {Y : Body} {xy yx : List Packet} → Inv sx X sy Y xy yx → Inv sy Y sx X yx xy
 swap i = record { fitX = i .fitY; fitY = i .fitX; fwd = i .bwd; bwd = i .fwd }
 
-pub count : {sx : St} {sent : List Bytes} {g : ℕ} {l : List Packet} {s : St} {got unread : List Bytes} {h : ℕ}
-    → (d : Dir sx sent g l s got unread h) → length sent ≡ length got + length unread + length (d .lost) + length (pays l)
+pub count : {sx : St} {sent : List Bytes} {g a : ℕ} {l : List Packet} {s : St} {got unread : List Bytes} {h : ℕ}
+    → (d : Dir sx sent g a l s got unread h) → length sent ≡ length got + length unread + length (d .lost) + length (pays l)
 count d = ap length (d .whole) ∙ simp length-append
 
 -- a half that keeps what arrives has ignored nothing
-pub none-lost : (s : St) → T (keeps s) → {sx : St} {sent : List Bytes} {g : ℕ} {l : List Packet} {got unread : List Bytes} {h : ℕ}
-    → (d : Dir sx sent g l s got unread h) → d .lost ≡ []
+pub none-lost : (s : St) → T (keeps s) → {sx : St} {sent : List Bytes} {g a : ℕ} {l : List Packet} {got unread : List Bytes} {h : ℕ}
+    → (d : Dir sx sent g a l s got unread h) → d .lost ≡ []
 none-lost est t d = d .kept .0
 none-lost fr t d = d .kept .0
 none-lost fs t d = absurd t
@@ -126,15 +132,15 @@ none-lost gone t d = absurd t
 
 -- ---- a direction after a step
 
-module _ {sx : St} {sent : List Bytes} {g : ℕ} {l : List Packet} {s : St} {got unread : List Bytes} {h : ℕ} (d : Dir sx sent g l s got unread h) where
+module _ {sx : St} {sent : List Bytes} {g a : ℕ} {l : List Packet} {s : St} {got unread : List Bytes} {h : ℕ} (d : Dir sx sent g a l s got unread h) where
   -- of its reader
   pub arrived : {l′ : List Packet} {s′ : St} {got′ unread′ : List Bytes} {h′ : ℕ} (lost : List Bytes) (w : ℕ) → sent ≡ got′ ++ unread′ ++ lost ++ pays l′
       → h′ ≤ w → w ≤ d .t → Kept (keeps s′) lost w h′ → Gate (ended s′) (closes sx) (length got′ + length unread′ + length lost) w l′ (d .t)
-      → Dir sx sent g l′ s′ got′ unread′ h′
-  arrived lost w a b c k f = record { lost = lost; w = w; t = d .t; whole = a; low = b; mid = c; top = d .top; news = d .news; kept = k; flow = f }
+      → Dir sx sent g a l′ s′ got′ unread′ h′
+  arrived lost w e b c k f = record { lost = lost; w = w; t = d .t; whole = e; low = b; mid = c; top = d .top; news = d .news; kept = k; flow = f }
 
   -- of its writer, who sends nothing
-  pub silent : {sx′ : St} {g′ : ℕ} → closes sx′ ≡ closes sx → g ≤ g′ → News sx′ (d .t) g′ → Dir sx′ sent g′ l s got unread h
+  pub silent : {sx′ : St} {g′ a′ : ℕ} → closes sx′ ≡ closes sx → g ≤ g′ → News sx′ (d .t) a′ → Dir sx′ sent g′ a′ l s got unread h
   silent c m n = record {
     lost = d .lost;
     w = d .w;
@@ -150,8 +156,11 @@ module _ {sx : St} {sent : List Bytes} {g : ℕ} {l : List Packet} {s : St} {got
   }
 
 pub start : Good begin
-start = record { fitX = omega arith; fitY = omega arith; fwd = way; bwd = way }
+start = record { fitX = fits; fitY = fits; fwd = way; bwd = way }
   where
+    fits : Fits fresh
+    fits = record { fit = omega arith; said = omega arith; near = omega arith }
+
     way : Way est fresh [] est fresh
     way = record {
       lost = [];
@@ -166,16 +175,20 @@ start = record { fitX = omega arith; fitY = omega arith; fwd = way; bwd = way }
       flow = (tt, refl);
     }
 
--- ---- the ranges of the counters: S ≤ H ≤ S + 4, R ≤ G
+-- ---- the ranges of the counters: S ≤ H ≤ S + 4, R ≤ G, L ≤ G ≤ L + 1
 
 pub record Ranges (B : Body) : Type 0 where
   pub fit : sOf B ≤ B .high
   pub high : B .high ≤ sOf B + 4
   pub room : rOf B ≤ gOf B
+  pub said : B .last ≤ gOf B
+  pub near : gOf B ≤ suc (B .last)
 
 pub ranges : {sx : St} {X : Body} {sy : St} {Y : Body} {xy yx : List Packet} → Inv sx X sy Y xy yx → Ranges X
 ranges i = let n = count (i .fwd) in let m = count (i .bwd) in record {
-  fit = i .fitX;
+  fit = i .fitX .fit;
   high = omega (arith, i .bwd .low, i .bwd .mid, i .bwd .top);
-  room = omega (arith, i .fitY, i .fwd .low, i .fwd .mid, i .fwd .top);
+  room = omega (arith, i .fitY .fit, i .fwd .low, i .fwd .mid, i .fwd .top);
+  said = i .fitX .said;
+  near = i .fitX .near;
 }

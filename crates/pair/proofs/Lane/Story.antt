@@ -1,6 +1,6 @@
 -- Means of proof. What every step and every history of a lane shows: the packet at the head is in range and taken with 0; what a side has read
 -- is a first part of what the other side's sends had accepted; what it has emitted is what its own had; and the window opens again.
-use Prim.Native.Nat.{_+_}
+use Prim.Native.Nat.{_+_, _≤_}
 use native.Mathlib.Omega.{arith}
 use mathlib.Core.Path.{_≡_, refl, sym, ap, _∙_, subst}
 use mathlib.Core.Bool.{not}
@@ -8,7 +8,8 @@ use mathlib.Core.List.{List, [], _∷_, _++_, append-assoc, append-nil}
 use lib.ListN.{length}
 use lib.Dec.{T}
 use Rattle.pair.specs.Side.{Side, client, server, other}
-use Rattle.pair.proofs.Lane.Half.{Bytes, Packet, St, Body, accOf, seqnumOf, wndwOf, est, sOf}
+use Rattle.pair.proofs.Lane.Half.{Bytes, Packet, St, Body, Room, accOf, seqnumOf, wndwOf, est, sOf, tight, goes}
+use Rattle.pair.proofs.Lane.Outcomes.{send-goes}
 use Rattle.pair.proofs.Lane.Lane.{Call, put, get, shut, deliver, move, Lane, begin, stOf, half, toward, moved, land, Step, next, final, trace, took}
 use Rattle.pair.proofs.Lane.Lane.{carried, gave, onlyAt, accepted, emitted, reads}
 use Rattle.pair.proofs.Lane.Inv.{pays, ended, Inv, Good, swap, start, Ranges, ranges, count}
@@ -132,13 +133,24 @@ reads-first-part h k =
 pub emitted-all : (h : List Step) (k : Side) → emitted k (trace begin h) ≡ accepted k (trace begin h)
 emitted-all h k = sym (emitted-is k h) ∙ accepted-is k h
 
--- ---- the window opens: where both halves are ESTABLISHED, nothing is on its way and the other has read all, a half may send four
+-- ---- the window opens: where both halves are ESTABLISHED, nothing is on its way and the other has read all, a half may send three or four.
+-- What it has unread itself doesn't matter.
 
--- H is the last WNDW that arrived, which is the last sent, which is the other's G: four more than it has read, all that was accepted
-opens : (X Y : Body) → Inv est X est Y [] [] → Y .unread ≡ [] → X .high ≡ sOf X + 4
+pub record Opened (B : Body) : Type 0 where
+  pub three : sOf B + 3 ≤ B .high
+  pub four : B .high ≤ sOf B + 4
+
+-- H is the last WNDW that arrived, which is the last sent, which is the other's L: its G, or one less; and G is four more than it has read, all that went out
+opens : (X Y : Body) → Inv est X est Y [] [] → Y .unread ≡ [] → Opened X
 opens X Y i e = let n = count (i .fwd) in
-    omega (arith, ap length e, ap length (i .fwd .kept .0), i .bwd .kept .1, i .bwd .flow .1, i .bwd .news)
+    let h : X .high ≡ Y .last = omega (arith, i .bwd .kept .1, i .bwd .flow .1, i .bwd .news) in
+    let s : sOf X ≡ length (Y .got) = omega (arith, ap length e, ap length (i .fwd .kept .0)) in
+    record { three = omega (arith, i .fitY .near); four = omega (arith, i .fitY .said) }
 
-pub window-opens : (L : Lane) → Good L → ((k : Side) → stOf k L ≡ est) → ((k : Side) → toward k L ≡ []) → (k : Side) → half (other k) L .unread ≡ []
-    → half k L .high ≡ sOf (half k L) + 4
-window-opens L i s t k u = opens (half k L) (half (other k) L) (rw (s k, s (other k), t k, t (other k)) at (seen L i k)) u
+module _ (L : Lane) (i : Good L) (s : (k : Side) → stOf k L ≡ est) (t : (k : Side) → toward k L ≡ []) (k : Side) (u : half (other k) L .unread ≡ []) where
+  pub window-opens : Opened (half k L)
+  window-opens = opens (half k L) (half (other k) L) (rw (s k, s (other k), t k, t (other k)) at (seen L i k)) u
+
+  -- so a send that is not too long, with room for its packet, is accepted and goes out
+  pub window-sends : (p : Bytes) (R : Room) → T (not (R .big)) → T (not (tight R p)) → moved k (put p R) L .out ≡ goes (half k L) p
+  window-sends p R b r = rw (s k) (send-goes p R (half k L) b (omega (arith, window-opens .three)) r)

@@ -12,7 +12,7 @@ use Rattle.pair.proofs.Lane.Half.{Bytes, Packet, dat, ack, fin, St, est
 use Rattle.pair.proofs.Lane.Half.{nextOk}
 use Rattle.pair.proofs.Lane.Half.{checked, plain, stored, raised, seqnumOf, wndwOf}
 use Rattle.pair.proofs.Lane.Lane.{deliver}
-use Rattle.pair.proofs.Lane.Inv.{pays, Flow, flow-top, closes, ended, Dir, Inv, arrived, silent, count}
+use Rattle.pair.proofs.Lane.Inv.{pays, Flow, flow-top, closes, ended, Dir, Fits, Inv, arrived, silent, count}
 use Rattle.pair.proofs.Lane.Calls.{Fine}
 
 -- ---- the packet at the head is in range
@@ -99,28 +99,28 @@ module _ {sy : St} {Y : Body} {xy yx : List Packet} where
 
 -- ---- what the packet at the head does to its direction
 
-module _ {sx : St} {sent : List Bytes} {g : ℕ} {l : List Packet} {got unread : List Bytes} {h : ℕ} where
-  dir-store : (q v : ℕ) (p : Bytes) → Dir sx sent g (dat q v p ∷ l) est got unread h → Dir sx sent g l est got (unread ++ (p ∷ [])) v
+module _ {sx : St} {sent : List Bytes} {g a : ℕ} {l : List Packet} {got unread : List Bytes} {h : ℕ} where
+  dir-store : (q v : ℕ) (p : Bytes) → Dir sx sent g a (dat q v p ∷ l) est got unread h → Dir sx sent g a l est got (unread ++ (p ∷ [])) v
   dir-store q v p d = let f = d .flow in let k = d .kept in
       arrived d [] v (d .whole ∙ simp (k .0, append-assoc)) (omega arith) (flow-top (closes sx) _ v l (d .t) (f .2)) (refl, refl)
       (subst (λ (n : ℕ). Flow (closes sx) n v l (d .t)) (omega (arith, ap length (k .0), length-append unread (p ∷ []))) (f .2))
 
-  dir-raise : (q v : ℕ) → Dir sx sent g (ack q v ∷ l) est got unread h → Dir sx sent g l est got unread v
+  dir-raise : (q v : ℕ) → Dir sx sent g a (ack q v ∷ l) est got unread h → Dir sx sent g a l est got unread v
   dir-raise q v d = let f = d .flow in arrived d (d .lost) v (d .whole) (omega arith) (flow-top (closes sx) _ v l (d .t) (f .2)) (d .kept .0, refl) (f .2)
 
-  dir-end : (q v : ℕ) → Dir sx sent g (fin q v ∷ l) est got unread h → Dir sx sent g l fr got unread v
+  dir-end : (q v : ℕ) → Dir sx sent g a (fin q v ∷ l) est got unread h → Dir sx sent g a l fr got unread v
   dir-end q v d = let f = d .flow in arrived d (d .lost) v (d .whole) (omega arith) (omega (arith, f .3)) (d .kept .0, refl) (f .0, f .4)
 
   -- the reader has closed: what arrives is ignored
-  skip-dat : (q v : ℕ) (p : Bytes) → Dir sx sent g (dat q v p ∷ l) fs got unread h → Dir sx sent g l fs got unread h
+  skip-dat : (q v : ℕ) (p : Bytes) → Dir sx sent g a (dat q v p ∷ l) fs got unread h → Dir sx sent g a l fs got unread h
   skip-dat q v p d = let f = d .flow in
       arrived d (d .lost ++ (p ∷ [])) v (d .whole ∙ simp append-assoc) (omega (arith, f .1, d .low)) (flow-top (closes sx) _ v l (d .t) (f .2)) tt
       (subst (λ (n : ℕ). Flow (closes sx) n v l (d .t)) (omega (arith, length-append (d .lost) (p ∷ []))) (f .2))
 
-  skip-ack : (q v : ℕ) → Dir sx sent g (ack q v ∷ l) fs got unread h → Dir sx sent g l fs got unread h
+  skip-ack : (q v : ℕ) → Dir sx sent g a (ack q v ∷ l) fs got unread h → Dir sx sent g a l fs got unread h
   skip-ack q v d = let f = d .flow in arrived d (d .lost) v (d .whole) (omega (arith, f .1, d .low)) (flow-top (closes sx) _ v l (d .t) (f .2)) tt (f .2)
 
-  skip-fin : (q v : ℕ) → Dir sx sent g (fin q v ∷ l) fs got unread h → Dir sx sent g l gone got unread h
+  skip-fin : (q v : ℕ) → Dir sx sent g a (fin q v ∷ l) fs got unread h → Dir sx sent g a l gone got unread h
   skip-fin q v d = let f = d .flow in arrived d (d .lost) v (d .whole) (omega (arith, f .2, d .low)) (omega (arith, f .3)) tt (f .0, f .4)
 
 -- ---- the answer is 0, nothing is emitted or handed over, and the move is fine
@@ -130,6 +130,10 @@ pub record Taken (s : St) (X : Body) (sy : St) (Y : Body) (xy yx : List Packet) 
   pub quiet : o .emit ≡ none
   pub dry : o .pay ≡ none
   pub fine : Fine deliver s X sy Y xy yx o
+
+-- H rises, whatever is unread then
+higher : (X : Body) (v : ℕ) (u : List Bytes) → sOf X ≤ v → Fits X → Fits (record { sent = X .sent; got = X .got; unread = u; high = v; last = X .last })
+higher X v u h f = record { fit = h; said = f .said; near = f .near }
 
 module _ {sy : St} {Y : Body} {xy yx : List Packet} where
   plain-taken : (s s′ : St) (X B : Body) → B .sent ≡ X .sent → B .got ≡ X .got → (T (closes s) → T (closes s′)) → Inv s′ B sy Y xy yx
@@ -149,12 +153,14 @@ module _ {sy : St} {Y : Body} {xy yx : List Packet} where
 
   passed-taken : (s : St) (p : Packet) (X : Body) → Inv s X sy Y xy (p ∷ yx) → Taken s X sy Y xy yx (passed s p X)
   passed-taken est (dat q v p) X i = let h = in-range est (dat q v p) X i .1 in
-      plain-taken est est X (stored X v p) refl refl (λ t. t) (record { fitX = omega arith; fitY = i .fitY; fwd = i .fwd; bwd = dir-store q v p (i .bwd) })
+      plain-taken est est X (stored X v p) refl refl (λ t. t)
+      (record { fitX = higher X v _ (omega arith) (i .fitX); fitY = i .fitY; fwd = i .fwd; bwd = dir-store q v p (i .bwd) })
   passed-taken est (ack q v) X i = let h = in-range est (ack q v) X i .1 in
-      plain-taken est est X (raised X v) refl refl (λ t. t) (record { fitX = omega arith; fitY = i .fitY; fwd = i .fwd; bwd = dir-raise q v (i .bwd) })
+      plain-taken est est X (raised X v) refl refl (λ t. t)
+      (record { fitX = higher X v _ (omega arith) (i .fitX); fitY = i .fitY; fwd = i .fwd; bwd = dir-raise q v (i .bwd) })
   passed-taken est (fin q v) X i = let h = in-range est (fin q v) X i .1 in
       plain-taken est fr X (raised X v) refl refl (λ t. t)
-      (record { fitX = omega arith; fitY = i .fitY; fwd = silent (i .fwd) refl (omega arith) tt; bwd = dir-end q v (i .bwd) })
+      (record { fitX = higher X v _ (omega arith) (i .fitX); fitY = i .fitY; fwd = silent (i .fwd) refl (omega arith) tt; bwd = dir-end q v (i .bwd) })
   passed-taken fs (dat q v p) X i = plain-taken fs fs X X refl refl (λ t. t)
       (record { fitX = i .fitX; fitY = i .fitY; fwd = i .fwd; bwd = skip-dat q v p (i .bwd) })
   passed-taken fs (ack q v) X i = plain-taken fs fs X X refl refl (λ t. t)

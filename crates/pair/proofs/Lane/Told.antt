@@ -4,12 +4,13 @@ use Prim.Native.Nat.{ℕ}
 use native.Mathlib.Omega.{arith}
 use mathlib.Core.Path.{_≡_, refl, sym, ap, _∙_}
 use mathlib.Core.Logic.{_⊎_, inl, inr}
-use mathlib.Core.Bool.{Bool, not, _||_}
+use mathlib.Core.Bool.{Bool, not, _||_, _&&_}
 use mathlib.Core.List.{List, [], _∷_, _++_, append-assoc, append-nil, append-cancel-left}
 use lib.Dec.{T, ltb}
 use Rattle.pair.specs.Side.{Side, client, server, other}
 use Rattle.pair.proofs.Lane.Half.{Bytes, Packet, St, est, fs, fr, gone, Body, accOf, Out, Room, unless, unless-all, cramped, read}
-use Rattle.pair.proofs.Lane.Half.{readE, readR, readOne, readLast}
+use Rattle.pair.proofs.Lane.Half.{readE, readR, readOne, readLast, later, due}
+use Rattle.pair.proofs.Lane.Outcomes.{one-all}
 use Rattle.pair.proofs.Lane.Lane.{Call, put, get, shut, deliver, Lane, begin, stOf, half, toward, moved, land, Event, Step, next, final, trace}
 use Rattle.pair.proofs.Lane.Lane.{accepted, reads}
 use Rattle.pair.proofs.Lane.Inv.{pays, closes, Inv, Good, start}
@@ -45,12 +46,13 @@ not-eleven b s B o e = unless-all (λ (o : Out). o .ans ≡ 11 → ⊥) b 9 s B 
 
 told-e : (u : List Bytes) (R : Room) (Y : Body) → readE u R Y .ans ≡ 11 → ⊥
 told-e [] R Y a = omega arith
-told-e (p ∷ u) R Y a = not-eleven (cramped R p || ltb (R .buf) 16) est Y (readOne Y p u) refl a
+told-e (p ∷ u) R Y a = not-eleven (cramped R p || (due (later Y p u) && ltb (R .buf) 16)) est Y (readOne (later Y p u) p)
+    (one-all (λ (o : Out). o .ans ≡ 0) (later Y p u) (later Y p u) p (λ _. refl) (λ _. refl)) a
 
 module _ {sx : St} {X : Body} {xy yx : List Packet} where
   told-r : (u : List Bytes) (R : Room) (Y : Body) → Y .unread ≡ u → Inv fr Y sx X yx xy → readR u R Y .ans ≡ 11 → Told sx X Y
   told-r [] R Y e i a = let d = i .bwd in record { closed = d .flow .0; all = d .whole ∙ simp (e, d .kept .0, d .flow .1, append-nil) }
-  told-r (p ∷ u) R Y e i a = absurd (not-eleven (cramped R p) fr Y (readLast Y p u) refl a)
+  told-r (p ∷ u) R Y e i a = absurd (not-eleven (cramped R p) fr Y (readLast (later Y p u) p) refl a)
 
   told-now : (R : Room) (s : St) (Y : Body) → Inv s Y sx X yx xy → read R s Y .ans ≡ 11 → Told sx X Y
   told-now R est Y i a = absurd (told-e (Y .unread) R Y a)

@@ -1,13 +1,14 @@
 -- Send, close and read on a record are send, close and read on the half that it stands for: the same number, and what becomes of the record, the
 -- packet and the payload are the half's. The payload that is read is the oldest unread one.
-use Prim.Native.Nat.{ℕ, suc, _+_, _%_, _^_, _<_}
+use Prim.Native.Nat.{ℕ, suc, _+_, _-_, _%_, _^_, _≤_, _<_}
 use native.Mathlib.Omega.{arith}
+use native.Mathlib.Decide.{decLt}
 use mathlib.Core.Path.{_≡_, refl, sym, ap, _∙_, subst}
 use mathlib.Core.Bool.{true, not, Bool, false, _&&_, _||_, or-comm, or-assoc}
 use mathlib.Core.List.{List, [], _∷_, append-nil, _++_}
 use lib.ListN.{length, length-append, getD, take, drop}
-use lib.Dec.{ltb, eqb}
-use borrow.Author.Tests.{eq-eqb, ne-eqb}
+use lib.Dec.{ltb, leb, eqb}
+use borrow.Author.Tests.{eq-eqb, ne-eqb, le-leb, lt-leb}
 use Rattle.cases.specs.Cases.{if}
 use Rattle.cases.proofs.Tests.{never}
 use Rattle.wire.specs.declared.header.Header.{Header}
@@ -15,23 +16,26 @@ use Rattle.wire.specs.declared.kind.Kind.{Kind}
 use Rattle.wire.specs.declared.kind.Kind.the-variants.{Data, Fin, Ack}
 use Rattle.wire.specs.Packet.{headerLength, packetBytes, headerBytes, headerOf}
 use Rattle.session.specs.declared.record.State.{State}
-use Rattle.session.specs.declared.record.State.the-variants.{FinSent}
+use Rattle.session.specs.declared.record.State.the-variants.{Established}
 use Rattle.session.specs.declared.record.Session.{Session}
 use Rattle.session.specs.Counter.{plus, minus}
 use Rattle.session.specs.Record.{inUse, established, finSent, finReceived, unread, oldest, place}
-use Rattle.session.specs.Changes.{sentOn, withState, closedIn, closedOn, readOn}
-use Rattle.session.proofs.Wrap.{plus-counts, same-counts, place-counts, back-counts}
+use Rattle.session.specs.Notice.{newG}
+use Rattle.session.specs.Notice as notice
+use Rattle.session.specs.Changes.{sentOn, closedIn, closedOn, readOn}
+use Rattle.session.proofs.Wrap.{minus-counts, plus-counts, same-counts, place-counts, back-counts}
 use Rattle.table.specs.Storage.{placeStart}
 use Rattle.table.specs.Limits.{Limits}
 use Rattle.send.specs.Send.{sendCases, dataHeader}
 use Rattle.read.specs.Read.{oldestLength, readCases, ackHeader, ackOn, oldestIn}
 use Rattle.close.specs.Close.{closeCases, finHeader}
 use Rattle.pair.proofs.Lane.Half.{Bytes, St, est, fs, fr, gone, Body, sOf, gOf, rOf, dat, Out, Room, goes, shut, tight, send, fin, ending, close, ack}
-use Rattle.pair.proofs.Lane.Half.{later}
-use Rattle.pair.proofs.Lane.Half.{cramped, readOne, readLast, readE, readR, read}
+use Rattle.pair.proofs.Lane.Half.{said, later, due, cramped, noticed, quiet, readOne, readLast, readE, readR, read}
+use Rattle.pair.proofs.Lane.Outcomes.{one-all}
 use Rattle.pair.proofs.Lane.Inv.{Ranges}
+use Rattle.pair.proofs.Lane.Tables.{T-true, T-not}
 use Rattle.pair.proofs.Bytes.Encoded.{packetFor, headerFor, handed}
-use Rattle.pair.proofs.Record.Stands.{stateOf, Stands, s-is, h-is, r-is, g-is, s-becomes, r-becomes, g-becomes, turned-stands, unread-counts, Lies}
+use Rattle.pair.proofs.Record.Stands.{stateOf, Stands, s-is, h-is, r-is, g-is, l-is, s-becomes, r-becomes, g-becomes, l-becomes, unread-counts, Lies}
 use Rattle.pair.proofs.Record.Stands.{lies-place}
 use Rattle.pair.proofs.Record.Does.{stands, Done, Does, does-skip, does-stop, does-test, does-done, freed}
 
@@ -50,7 +54,7 @@ module _ {lim : Limits} {i : ℕ} {storage : List ℕ} {x : Session} {sid : ℕ}
   sent-stands a p = record {
     sid = a .sid;
     state = a .state;
-    counts = s-becomes (next a ∙ ap (λ (n : ℕ). n % 2 ^ 32) (omega (arith, length-append (B .sent) (p ∷ [])))) (a .counts);
+    counts = l-becomes (g-is a) (s-becomes (next a ∙ ap (λ (n : ℕ). n % 2 ^ 32) (omega (arith, length-append (B .sent) (p ∷ [])))) (a .counts));
     lengths = a .lengths;
     ring = a .ring;
   }
@@ -75,6 +79,9 @@ module _ {lim : Limits} {i : ℕ} {storage : List ℕ} {x : Session} {sid : ℕ}
 -- ---- close
 
 module _ {lim : Limits} {i : ℕ} {storage : List ℕ} {x : Session} {sid : ℕ} {B : Body} where
+  closed-stands : Stands lim i storage x sid est B → Stands lim i storage (closedIn Established x) sid fs (said B)
+  closed-stands a = record { sid = a .sid; state = refl; counts = l-becomes (g-is a) (a .counts); lengths = a .lengths; ring = a .ring }
+
   closed-packet : {s : St} → Stands lim i storage x sid s B → headerBytes (finHeader x) ≡ packetFor sid (fin (sOf B) (gOf B))
   closed-packet a = ap headerBytes (header-counts Fin headerLength (a .sid) (s-is a) (g-is a))
       ∙ sym (append-nil (headerBytes (headerFor sid (fin (sOf B) (gOf B)))))
@@ -84,9 +91,9 @@ module _ {lim : Limits} {i : ℕ} {storage : List ℕ} {x : Session} {sid : ℕ}
   close-does est a u R =
       does-skip (ap finSent (a .state))
       (does-test (ltb (R .buf) 16) _ refl (omega arith)
-      (does-done (ending fs B) refl (record { after = stands refl (rw closes (turned-stands fs a)); packet = closed-packet a; payload = refl })))
+      (does-done (ending fs B) refl (record { after = stands refl (rw closes (closed-stands a)); packet = closed-packet a; payload = refl })))
     where
-      closes : closedOn x ≡ withState FinSent x
+      closes : closedOn x ≡ closedIn Established x
       closes = ap (λ (st : State). closedIn st x) (a .state)
   close-does fs a u R = does-stop (ap finSent (a .state)) (omega arith)
   close-does fr a u R =
@@ -107,6 +114,14 @@ pub record Reads (lim : Limits) (i : ℕ) (storage : List ℕ) (x : Session) (si
   pub done : Done lim i storage (readOn x) sid (ackOn x) (oldestIn lim i x storage) o
   pub long : oldestLength x ≡ length (handed (o .pay))
 
+-- two or more past, by the difference
+two-past : (l g : ℕ) → l ≤ g → leb 2 (g - l) ≡ leb (2 + l) g
+two-past l g h = by (decLt g (2 + l))
+  where
+    by : Dec (g < 2 + l) → leb 2 (g - l) ≡ leb (2 + l) g
+    by (yes k) = lt-leb 2 (g - l) (omega arith) ∙ sym (lt-leb (2 + l) g k)
+    by (no k) = le-leb 2 (g - l) (omega arith) ∙ sym (le-leb (2 + l) g (omega arith))
+
 -- the test of 9, in the half's order
 in-turn : (a b c : Bool) → a || (b || c) ≡ (a || c) || b
 in-turn a b c = ap (λ (d : Bool). a || d) (or-comm b c) ∙ sym (or-assoc a c b)
@@ -114,7 +129,7 @@ in-turn a b c = ap (λ (d : Bool). a || d) (or-comm b c) ∙ sym (or-assoc a c b
 module _ {lim : Limits} {i : ℕ} {storage : List ℕ} {x : Session} {sid : ℕ} {B : Body} where
   module _ {st : St} (a : Stands lim i storage x sid st B) where
     -- G after the read
-    later-g : (p : Bytes) (u : List Bytes) → plus (x .g) 1 ≡ gOf (later B p u) % 2 ^ 32
+    later-g : (p : Bytes) (u : List Bytes) → newG x ≡ gOf (later B p u) % 2 ^ 32
     later-g p u = rw (g-is a) (plus-counts (gOf B) 1 ∙ ap (λ (n : ℕ). n % 2 ^ 32) (omega (arith, length-append (B .got) (p ∷ []))))
 
     -- the place of the oldest
@@ -136,11 +151,13 @@ module _ {lim : Limits} {i : ℕ} {storage : List ℕ} {x : Session} {sid : ℕ}
       oldest-bytes : oldestIn lim i x storage ≡ p
       oldest-bytes = ap (λ (n : ℕ). take n (drop (placeStart (lim .place) i (oldest x)) storage)) (oldest-holds .long) ∙ oldest-holds .bytes
 
-      read-stands : Stands lim i storage (readOn x) sid st (later B p u)
-      read-stands = record {
+      -- n is what L becomes
+      read-stands : (n : ℕ) → readOn x .l ≡ n % 2 ^ 32
+          → Stands lim i storage (readOn x) sid st (record { sent = B .sent; got = B .got ++ (p ∷ []); unread = u; high = B .high; last = n })
+      read-stands n q = record {
         sid = a .sid;
         state = a .state;
-        counts = g-becomes (later-g p u) (r-becomes same-r (a .counts));
+        counts = l-becomes q (g-becomes (later-g p u) (r-becomes same-r (a .counts)));
         lengths = a .lengths;
         ring = ring;
       }
@@ -155,12 +172,23 @@ module _ {lim : Limits} {i : ℕ} {storage : List ℕ} {x : Session} {sid : ℕ}
               (subst (λ (q : Bytes). Lies lim i storage (x .lens) (length (B .got) + 1 + suc j) q) (ap (λ (l : List Bytes). getD l (suc j) []) e)
               (a .ring (suc j) (omega (arith, ap length e))))
 
-      -- 9's test goes by the payload's length
-      nine : (R : Room) → ltb (R .pay) (oldestLength x) || (established (x .state) && ltb (R .buf) headerLength || R .short)
-          ≡ ltb (R .pay) (length p) || (established (stateOf st) && ltb (R .buf) headerLength || R .short)
-      nine R =
-          ap (λ (n : ℕ). ltb (R .pay) n || (established (x .state) && ltb (R .buf) headerLength || R .short)) (oldest-holds .long)
-          ∙ ap (λ (t : State). ltb (R .pay) (length p) || (established t && ltb (R .buf) headerLength || R .short)) (a .state)
+      -- an ACK is due where the half says so
+      pub due-is : Ranges B → notice.due x ≡ established (stateOf st) && due (later B p u)
+      unfolding notice.due
+      due-is b =
+          let more : gOf (later B p u) ≡ suc (gOf B) = omega (arith, length-append (B .got) (p ∷ [])) in
+          let past : minus (newG x) (x .l) ≡ gOf (later B p u) - B .last =
+          rw (later-g p u, l-is a) (minus-counts (B .last) (gOf (later B p u)) (omega (arith, b .said)) (omega (arith, b .near))) in
+          ap (λ (t : State). established t && leb 2 (minus (newG x) (x .l))) (a .state)
+          ∙ ap (λ (n : ℕ). established (stateOf st) && leb 2 n) past
+          ∙ ap (λ (t : Bool). established (stateOf st) && t) (two-past (B .last) (gOf (later B p u)) (omega (arith, b .said)))
+
+      -- 9's test goes by the payload's length, and by whether an ACK is due
+      nine : (R : Room) (t : Bool) → notice.due x ≡ t → ltb (R .pay) (oldestLength x) || (notice.due x && ltb (R .buf) headerLength || R .short)
+          ≡ ltb (R .pay) (length p) || (t && ltb (R .buf) headerLength || R .short)
+      nine R t d =
+          ap (λ (n : ℕ). ltb (R .pay) n || (notice.due x && ltb (R .buf) headerLength || R .short)) (oldest-holds .long)
+          ∙ ap (λ (t : Bool). ltb (R .pay) (length p) || (t && ltb (R .buf) headerLength || R .short)) d
 
       some-unread : Ranges B → finSent (stateOf st) ≡ false → inUse (stateOf st) ≡ true → eqb (unread x) 0 ≡ false
       some-unread b f v = ne-eqb (unread x) 0 (λ z. omega (arith, unread-counts a b f v, ap length e))
@@ -168,15 +196,21 @@ module _ {lim : Limits} {i : ℕ} {storage : List ℕ} {x : Session} {sid : ℕ}
     no-unread : Ranges B → finSent (stateOf st) ≡ false → inUse (stateOf st) ≡ true → B .unread ≡ [] → eqb (unread x) 0 ≡ true
     no-unread b f v e = eq-eqb (unread x) 0 (unread-counts a b f v ∙ ap length e)
 
-    -- the tests of 8 and 11, and what is emitted, go by the half's state
+    -- the tests of 8 and 11 go by the half's state
     eight : established (x .state) && eqb (unread x) 0 ≡ established (stateOf st) && eqb (unread x) 0
     eight = ap (λ (t : State). established t && eqb (unread x) 0) (a .state)
 
     eleven : finReceived (x .state) && eqb (unread x) 0 ≡ finReceived (stateOf st) && eqb (unread x) 0
     eleven = ap (λ (t : State). finReceived t && eqb (unread x) 0) (a .state)
 
-    emits : ackOn x ≡ if (established (stateOf st)) (headerBytes (ackHeader x)) []
-    emits = ap (λ (t : State). if (established t) (headerBytes (ackHeader x)) []) (a .state)
+    -- what is emitted, and what L becomes, go by whether an ACK is due
+    emits : (t : Bool) → notice.due x ≡ t → ackOn x ≡ if t (headerBytes (ackHeader x)) []
+    emits t d = ap (λ (t : Bool). if t (headerBytes (ackHeader x)) []) d
+
+    new-l : (t : Bool) → notice.due x ≡ t → readOn x .l ≡ if (t || finReceived (stateOf st)) (newG x) (x .l)
+    new-l t d =
+        ap (λ (t : Bool). if (t || finReceived (x .state)) (newG x) (x .l)) d
+        ∙ ap (λ (s : State). if (t || finReceived s) (newG x) (x .l)) (a .state)
 
   read-est : (R : Room) → Ranges B → Stands lim i storage x sid est B → (l : List Bytes) → B .unread ≡ l
       → Does (Reads lim i storage x sid) est B (readCases x (R .pay) (R .buf) (R .short)) (readE l R B)
@@ -185,16 +219,32 @@ module _ {lim : Limits} {i : ℕ} {storage : List ℕ} {x : Session} {sid : ℕ}
       does-skip (ap finSent (a .state))
       (does-skip (eight a ∙ some-unread a p u e b refl refl)
       (does-skip (eleven a)
-      (does-test (cramped R p || ltb (R .buf) 16) (readOne B p u)
-      (nine a p u e R ∙ in-turn (ltb (R .pay) (length p)) (ltb (R .buf) 16) (R .short)) (omega arith)
-      (does-done (readOne B p u) refl (record {
-        done = record { after = stands refl (read-stands a p u e); packet = packet; payload = oldest-bytes a p u e };
+      (does-test (cramped R p || (due (later B p u) && ltb (R .buf) 16)) (readOne (later B p u) p)
+      (nine a p u e R (due (later B p u)) is ∙ in-turn (ltb (R .pay) (length p)) (due (later B p u) && ltb (R .buf) 16) (R .short)) (omega arith)
+      (one-all (Does (Reads lim i storage x sid) est B []) B (later B p u) p
+      (λ t. does-done (noticed (later B p u) p) refl (record {
+        done = record {
+          after = stands refl (read-stands a p u e _ (new-l a true (is ∙ T-true _ t) ∙ later-g a p u));
+          packet = packet (is ∙ T-true _ t);
+          payload = oldest-bytes a p u e;
+        };
         long = oldest-holds a p u e .long;
-      })))))
+      }))
+      (λ t. does-done (quiet (later B p u) p) refl (record {
+        done = record {
+          after = stands refl (read-stands a p u e _ (new-l a false (is ∙ T-not _ t) ∙ l-is a));
+          packet = emits a false (is ∙ T-not _ t);
+          payload = oldest-bytes a p u e;
+        };
+        long = oldest-holds a p u e .long;
+      }))))))
     where
-      packet : ackOn x ≡ packetFor sid (ack (sOf B) (gOf (later B p u)))
-      packet =
-          emits a
+      is : notice.due x ≡ due (later B p u)
+      is = due-is a p u e b
+
+      packet : notice.due x ≡ true → ackOn x ≡ packetFor sid (ack (sOf B) (gOf (later B p u)))
+      packet d =
+          emits a true d
           ∙ ap headerBytes (header-counts Ack headerLength (a .sid) (s-is a) (later-g a p u))
           ∙ sym (append-nil (headerBytes (headerFor sid (ack (sOf B) (gOf (later B p u))))))
 
@@ -206,11 +256,18 @@ module _ {lim : Limits} {i : ℕ} {storage : List ℕ} {x : Session} {sid : ℕ}
       does-skip (ap finSent (a .state))
       (does-skip (eight a)
       (does-skip (eleven a ∙ some-unread a p u e b refl refl)
-      (does-test (cramped R p) (readLast B p u) (nine a p u e R) (omega arith)
-      (does-done (readLast B p u) refl (record {
-        done = record { after = stands refl (read-stands a p u e); packet = emits a; payload = oldest-bytes a p u e };
+      (does-test (cramped R p) (readLast (later B p u) p) (nine a p u e R false is) (omega arith)
+      (does-done (readLast (later B p u) p) refl (record {
+        done = record {
+          after = stands refl (read-stands a p u e _ (new-l a false is ∙ later-g a p u));
+          packet = emits a false is;
+          payload = oldest-bytes a p u e;
+        };
         long = oldest-holds a p u e .long;
       })))))
+    where
+      is : notice.due x ≡ false
+      is = due-is a p u e b
 
   pub read-does : (s : St) → Stands lim i storage x sid s B → Ranges B → inUse (stateOf s) ≡ true → (R : Room)
       → Does (Reads lim i storage x sid) s B (readCases x (R .pay) (R .buf) (R .short)) (read R s B)

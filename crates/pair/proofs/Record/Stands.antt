@@ -21,6 +21,7 @@ use Rattle.table.specs.Storage.{placeStart}
 use Rattle.table.specs.Limits.{Limits}
 use Rattle.pair.proofs.Lane.Half.{Bytes, St, est, fs, fr, gone, Body, sOf, gOf, rOf, fresh}
 use Rattle.pair.proofs.Lane.Inv.{keeps, Ranges}
+use Rattle.pair.proofs.Lane.Story.{Opened}
 use Rattle.pair.proofs.Lane.World.{live}
 
 abbrev pub stateOf : St → State
@@ -73,10 +74,10 @@ pub record Lies (lim : Limits) (i : ℕ) (storage lens : List ℕ) (q : ℕ) (p 
 -- the counters of a record, one after the other, and what they are for a half. A new counter is one more in both; what a step doesn't change
 -- of them needs no word, since both lists compute.
 abbrev pub counters : Session → List ℕ
-counters x = x .s ∷ x .h ∷ x .r ∷ x .g ∷ []
+counters x = x .s ∷ x .h ∷ x .r ∷ x .g ∷ x .l ∷ []
 
 abbrev pub wrapped : Body → List ℕ
-wrapped B = sOf B % 2 ^ 32 ∷ B .high % 2 ^ 32 ∷ rOf B % 2 ^ 32 ∷ gOf B % 2 ^ 32 ∷ []
+wrapped B = sOf B % 2 ^ 32 ∷ B .high % 2 ^ 32 ∷ rOf B % 2 ^ 32 ∷ gOf B % 2 ^ 32 ∷ B .last % 2 ^ 32 ∷ []
 
 -- the four lengths
 pub record Lengths (lim : Limits) (lens : List ℕ) : Type 0 where
@@ -116,6 +117,9 @@ module _ {lim : Limits} {i : ℕ} {storage : List ℕ} {x : Session} {sid : ℕ}
   pub g-is : x .g ≡ gOf B % 2 ^ 32
   g-is = counted 3 (a .counts)
 
+  pub l-is : x .l ≡ B .last % 2 ^ 32
+  l-is = counted 4 (a .counts)
+
 pub s-becomes : {a b : ℕ} {l m : List ℕ} → a ≡ b → l ≡ m → set l 0 a ≡ set m 0 b
 s-becomes e f = becomes 0 e f
 
@@ -127,6 +131,9 @@ r-becomes e f = becomes 2 e f
 
 pub g-becomes : {a b : ℕ} {l m : List ℕ} → a ≡ b → l ≡ m → set l 3 a ≡ set m 3 b
 g-becomes e f = becomes 3 e f
+
+pub l-becomes : {a b : ℕ} {l m : List ℕ} → a ≡ b → l ≡ m → set l 4 a ≡ set m 4 b
+l-becomes e f = becomes 4 e f
 
 -- a place goes by its SEQNUM modulo 4
 pub lies-place : {lim : Limits} {i : ℕ} {storage lens : List ℕ} (q q' : ℕ) {p : Bytes} → place q ≡ place q' → Lies lim i storage lens q' p
@@ -170,12 +177,16 @@ module _ {lim : Limits} {i : ℕ} {storage : List ℕ} {x : Session} {sid : ℕ}
   pub window-counts : minus (x .h) (x .s) ≡ B .high - sOf B
   window-counts = rw (h-is a, s-is a) (minus-counts (sOf B) (B .high) (b .fit) (omega (arith, b .high)))
 
-  pub whole-window : B .high ≡ sOf B + window → minus (x .h) (x .s) ≡ window
-  whole-window e = window-counts ∙ omega arith
+  pub opened-window : Opened B → (3 ≤ minus (x .h) (x .s)) × (minus (x .h) (x .s) ≤ window)
+  opened-window o = (omega (arith, window-counts, o .three), omega (arith, window-counts, o .four))
 
   -- what we still let the peer send
   pub room-counts : minus (x .g) (x .r) ≡ gOf B - rOf B
   room-counts = rw (g-is a, r-is a) (minus-counts (rOf B) (gOf B) (b .room) (omega arith))
+
+  -- how far our G is past the window last announced
+  pub notice-counts : minus (x .g) (x .l) ≡ gOf B - B .last
+  notice-counts = rw (g-is a, l-is a) (minus-counts (B .last) (gOf B) (b .said) (omega (arith, b .near)))
 
   waiting : minus (plus (x .r) window) (x .g) ≡ length (B .unread)
   waiting = rw (g-is a, r-is a, plus-counts (rOf B) window) (minus-counts (gOf B) (rOf B + window) (omega arith) (omega (arith, b .room)) ∙ omega arith)
@@ -193,6 +204,11 @@ module _ {lim : Limits} {i : ℕ} {storage : List ℕ} {x : Session} {sid : ℕ}
   -- it is in order
   pub stands-order : window ≤ lim .window → inUse (stateOf st) ≡ true → InOrder (lim .window) (lim .place) x
   stands-order wide u = record {
-    used = λ _. record { send = omega (arith, window-counts, b .high); receive = omega (arith, room-counts); lengths = a .lengths .small };
+    used = λ _. record {
+      send = omega (arith, window-counts, b .high);
+      receive = omega (arith, room-counts);
+      notice = omega (arith, notice-counts, b .near);
+      lengths = a .lengths .small;
+    };
     free = λ e. never (sym e ∙ stands-used a u);
   }

@@ -15,7 +15,8 @@ use Rattle.cases.proofs.First.{done-0, done-not, clear, test, numbered}
 use Rattle.wire.specs.Packet.{headerLength}
 use Rattle.session.specs.declared.record.Session.{Session}
 use Rattle.session.specs.Record as rec
-use Rattle.session.specs.Record.{established, oldest}
+use Rattle.session.specs.Record.{oldest}
+use Rattle.session.specs.Notice.{due}
 use Rattle.session.specs.Changes.{readOn}
 use Rattle.table.specs.Storage.{placeStart, storageLength}
 use Rattle.table.specs.End.{putOf}
@@ -44,15 +45,15 @@ use Rattle.pair.proofs.Steps.OwnCall.{Outcome, outcome, acted-call}
 
 -- an ACK has no payload
 read-fits : (lim : Limits) (R : Room) (s : St) (B : Body) → FitsIn lim (read R s B .emit)
-read-fits lim R s B = read-all (λ (o : Out). FitsIn lim (o .emit)) B R s (λ n a b. tt) (λ e p u q. omega arith) (λ e p u q. tt)
+read-fits lim R s B = read-all (λ (o : Out). FitsIn lim (o .emit)) B R s (λ n a b. tt) (λ e p u q d. omega arith) (λ e p u q d. tt) (λ e p u q. tt)
 
 -- ---- the payload lies in the front part that is lent
 
 not-short : (s : Session) (room ack : ℕ) (short : Bool) → first (readCases s room ack short) ≡ 0 → short ≡ false
 unfolding test numbered
 not-short s room ack short z =
-    or-split (established (s .state) && ltb ack headerLength) short
-    (or-split (ltb room (oldestLength s)) (established (s .state) && ltb ack headerLength || short) (clear (readCases s room ack short) 9 refl z) .1) .1
+    or-split (due s && ltb ack headerLength) short
+    (or-split (ltb room (oldestLength s)) (due s && ltb ack headerLength || short) (clear (readCases s room ack short) 9 refl z) .1) .1
 
 -- ---- the call
 

@@ -35,7 +35,13 @@ packet-requires c κs =
     (c .before .before .before .before .before .send-number .ensures) (c .before .before .before .before .if1 .left)
 
 add-done : tie.Need-add-done
-add-done c = search needs
+add-done c =
+    let a = c .before .before .before .before .before .before .before .before .before .before .before .before .args in
+    let limit =
+    send-limit (a .e) (a .sid) (a .payload .now) (a .packet .now) (c .before .before .before .before .before .before .before .before .before .scan .ensures)
+    (c .before .before .before .before .before .before .before .before .send-number .ensures)
+    (c .before .before .before .before .before .before .before .if1 .left) in
+    search (needs, limit)
 
 sent-requires : tie.Need-sent-requires
 sent-requires c κs = search needs

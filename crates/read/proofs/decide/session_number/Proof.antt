@@ -44,8 +44,8 @@ returns-3 c =
     ∙ c .before .before .before .if2 .left in
     sym (says (skip five (skip eight (here (both-is (c .before .both2 .ensures) (c .before .before .fin-received .ensures) none ∙ c .if3 .taken)))))
 
-established-requires-2 : tie.Need-established-requires-2
-established-requires-2 c κs = search needs
+due-requires : tie.Need-due-requires
+due-requires c κs = search needs
 
 both-requires-3 : tie.Need-both-requires-3
 both-requires-3 c κs = search needs
@@ -70,7 +70,7 @@ returns-4 c =
     let eleven = both-is (c .before .before .before .before .before .before .before .both2 .ensures)
     (c .before .before .before .before .before .before .before .before .fin-received .ensures) none
     ∙ c .before .before .before .before .before .before .if3 .left in
-    let no-ack = sym (both-is (c .before .before .before .before .both3 .ensures) (c .before .before .before .before .before .established2 .ensures) refl) in
+    let no-ack = sym (both-is (c .before .before .before .before .both3 .ensures) (c .before .before .before .before .before .due .ensures) refl) in
     let nine = either-is (c .before .either2 .ensures)
     (ap (ltb (c .before .before .before .before .before .before .before .before .before .before .before .before .before .before .before .args .room))
     (c .before .before .before .oldest-length .ensures)) (sym (either-is (c .before .before .either .ensures) no-ack refl)) in
@@ -87,7 +87,7 @@ returns-5 c =
     let eleven = both-is (c .before .before .before .before .before .before .before .both2 .ensures)
     (c .before .before .before .before .before .before .before .before .fin-received .ensures) none
     ∙ c .before .before .before .before .before .before .if3 .left in
-    let no-ack = sym (both-is (c .before .before .before .before .both3 .ensures) (c .before .before .before .before .before .established2 .ensures) refl) in
+    let no-ack = sym (both-is (c .before .before .before .before .both3 .ensures) (c .before .before .before .before .before .due .ensures) refl) in
     let nine = either-is (c .before .either2 .ensures)
     (ap (ltb (c .before .before .before .before .before .before .before .before .before .before .before .before .before .before .before .args .room))
     (c .before .before .before .oldest-length .ensures)) (sym (either-is (c .before .before .either .ensures) no-ack refl)) in
@@ -106,7 +106,7 @@ session-number-spec =
     fin-received-requires
     both-requires-2
     returns-3
-    established-requires-2
+    due-requires
     both-requires-3
     oldest-length-requires
     either-requires
