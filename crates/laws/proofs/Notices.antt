@@ -1,13 +1,13 @@
 -- Notices of the window (document 02, (i)), over the definitions that the calls' promises cite: what each call makes of L.
 use Prim.Native.Nat.{ℕ}
 use mathlib.Core.Path.{_≡_, refl}
-use mathlib.Core.Bool.{true, false, _||_}
+use mathlib.Core.Bool.{true, false}
 use mathlib.Core.List.{[], _∷_}
 use Rattle.session.specs.declared.record.State.the-variants.{Established, FinReceived}
 use Rattle.session.specs.declared.record.Session.{Session}
 use Rattle.session.specs.Record.{recordOf, freshOf}
 use Rattle.session.specs.Notice.{newG, due}
-use Rattle.session.specs.Changes.{sentOn, readOn, closedOn, closedIn}
+use Rattle.session.specs.Changes.{sentOn, readOn, closedOn}
 use Rattle.open.specs.Open.{synHeader}
 use Rattle.send.specs.Send.{dataHeader}
 use Rattle.read.specs.Read.{ackHeader, ackOn}
@@ -39,7 +39,7 @@ last-sets x e = (rw e, rw e)
 -- ---- evaluated, before the wrap and across it: an ACK at 2 past L and none at 1
 
 abbrev at : ℕ → ℕ → Session
-at g l = recordOf Established 5 0 4 (g) g l (0 ∷ 0 ∷ 0 ∷ 0 ∷ [])
+at g l = recordOf Established 5 0 4 g g l (0 ∷ 0 ∷ 0 ∷ 0 ∷ [])
 
 pub at-2 : due (at 5 4) ≡ true
 unfolding due
