@@ -7,7 +7,6 @@ use mathlib.Core.List.{List, _++_}
 use Rattle.cases.specs.Cases.{Case, first, done}
 use Rattle.cases.proofs.First.{here, says, numbered, in-order}
 use Rattle.session.specs.declared.record.Session.{Session}
-use Rattle.session.specs.Record.{window, payloadLimit, inUse}
 use Rattle.table.specs.declared.end.End.{End}
 use Rattle.scan.specs.declared.Look.{Look}
 use Rattle.table.specs.Slots.{holds, sessionOf, slotOf}

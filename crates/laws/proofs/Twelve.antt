@@ -15,7 +15,6 @@ use Rattle.wire.specs.declared.kind.Flags.the-variants.{One, Wrong}
 use Rattle.wire.specs.Packet.{flagsOf, readHeader}
 use Rattle.table.specs.declared.end.End.{End}
 use Rattle.table.proofs.Made.{made}
-use Rattle.session.specs.Record.{window, payloadLimit}
 use Rattle.open.specs.declared.Opened.{Opened}
 use Rattle.send.specs.declared.Sent.{Sent}
 use Rattle.read.specs.declared.Got.{Got}

@@ -12,7 +12,7 @@ use Rattle.wire.specs.declared.header.Header.{Header}
 use Rattle.wire.specs.Packet.{headerLength, headerBytes}
 use Rattle.buffer.specs.Onto.{onto}
 use Rattle.session.specs.declared.record.Session.{Session}
-use Rattle.session.specs.Record.{window, payloadLimit, freshOf}
+use Rattle.session.specs.Record.{freshOf}
 use Rattle.table.specs.declared.end.End.{End}
 use Rattle.scan.specs.declared.Look.{Look}
 use Rattle.table.specs.Slots.{lowestFree, full, smallestSid}

@@ -3,7 +3,6 @@ use Prim.Native.Nat.{ℕ}
 use mathlib.Core.Path.{_≡_, ap, _∙_}
 use mathlib.Core.Bool.{Bool}
 use Rattle.cases.specs.Cases.{first}
-use Rattle.session.specs.Record.{window, payloadLimit}
 use Rattle.table.specs.declared.end.End.{End}
 use Rattle.table.specs.End.{downOf}
 use Rattle.scan.specs.declared.Look.{Look}

@@ -28,9 +28,9 @@ use Rattle.table.proofs.Slots.{within, changed-end, put-past}
 use Rattle.scan.specs.declared.Look.{Look}
 use Rattle.scan.specs.Look.{seenAll, lookOf}
 use Rattle.judge.specs.declared.Act.{Act}
-use Rattle.judge.specs.declared.Act.the-variants.{Stop, Begin, Do}
+use Rattle.judge.specs.declared.Act.the-variants.{Stop, Do}
 use Rattle.judge.specs.Number.{takeNumber, missing}
-use Rattle.judge.specs.Act.{frontOf, missingOf, kindAct, actOf}
+use Rattle.judge.specs.Act.{frontOf, kindAct, actOf}
 use Rattle.judge.proofs.Outcome as outcome'
 use Rattle.judge.proofs.Outcome.{Outcome, stopping, going, is-held}
 use Rattle.take.specs.declared.Taken.{Taken}

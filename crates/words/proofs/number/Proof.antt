@@ -1,9 +1,8 @@
 -- The invariant: i digits spell n, which is below 10 ^ i, and what all spell is spelled from there on.
 use Prim.Native.Nat.{_^_, _-_, _<_, _≤_}
 use native.Mathlib.Omega.{arith}
-use mathlib.Core.Path.{_≡_, refl, sym, _∙_}
+use mathlib.Core.Path.{_≡_, refl, _∙_}
 use lib.ListN.{length, drop}
-use borrow.Author.Tests.{eq-eqb, ne-eqb, lt-ltb}
 use borrow.Author.Needs.{needs}
 use Rattle.words.specs.Words.{spelledFrom, noNumber}
 use Rattle.words.proofs.Decimals.{more, small}

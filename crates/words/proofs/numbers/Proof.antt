@@ -2,7 +2,7 @@
 use Prim.Native.Nat.{_+_, _-_, _≤_}
 use native.Mathlib.Omega.{arith}
 use mathlib.Core.Path.{_≡_, refl, sym, _∙_}
-use lib.ListN.{length, drop, getD}
+use lib.ListN.{length, drop}
 use borrow.Author.Tests.{eq-eqb, ne-eqb}
 use borrow.Author.Needs.{needs}
 use Rattle.words.specs.Words.{spaces, fit}
