@@ -1,7 +1,7 @@
 // compare STEPS: the proved calls beside the C, on random streams. Each step is one call on the record that the step before left, with both given the
 // same; numbers, values, the record and every lent byte must be the same after it. A stream begins with a fresh end or with any record at all.
-// It fails if the two differ, if some call never gave one of its numbers, if a cell of take's table was never reached, or if a read was never of one
-// of its sorts: with an ACK, without one, and so on.
+// It fails if the two differ, if some call never gave one of its numbers, if a cell of take's table was never reached, if a read was never of one
+// of its sorts (with an ACK, without one, and so on), or if a window was never of one of its sorts: wider than four, as wide as it may be, and so on.
 #include "bench.h"
 #include <stdio.h>
 #include <stdlib.h>
@@ -29,6 +29,13 @@ static uint32_t *slot(int i) {
     return record + 2 + SLOT_WORDS * i;
 }
 
+// The words of a session in use.
+static const uint32_t *session(uint32_t sid) {
+    for (int i = 0; i < SLOTS; i++)
+        if (slot(i)[STATE] != CLOSED && slot(i)[SID] == sid) return slot(i);
+    return NULL;
+}
+
 static uint32_t counter(void) {
     switch (any(3)) {
     case 0: return any(8);
@@ -54,11 +61,25 @@ static uint32_t length_like(void) {
     }
 }
 
+// The widest window that a peer may grant.
+#define WIDEST 2147483647u
+
+// How much a window is open, or opens further: mostly little, at times as much as it may.
+static uint32_t width(uint32_t most) {
+    switch (any(10)) {
+    case 0: return most;
+    case 1: return most - any(3);
+    case 2: return 28 + any(6);
+    case 3: return (any(65536) << 16 | any(65536)) % (most + 1);
+    default: return any(5);
+    }
+}
+
 static void any_session(int i) {
     uint32_t *w = slot(i);
     w[STATE] = ESTABLISHED + any(3);
     w[SID] = sid_like();
-    w[S] = counter(), w[H] = w[S] + any(5);
+    w[S] = counter(), w[H] = w[S] + width(WIDEST);
     w[R] = counter(), w[G] = w[R] + any(5), w[L] = w[G] - any(2);
     for (int k = 0; k < 4; k++) w[LENS + k] = any(PAYLOAD + 1);
     for (int j = 0; j < i; j++)
@@ -68,7 +89,7 @@ static void any_session(int i) {
 // One thing that well made may forbid.
 static void damage_record(void) {
     uint32_t *w = slot(any(SLOTS)), *v = slot(any(SLOTS));
-    switch (any(8)) {
+    switch (any(11)) {
     case 0: record[UP] = 0; break;
     case 1: w[STATE] = any(4); break;
     case 2: w[SID] = v[SID]; break;
@@ -76,6 +97,9 @@ static void damage_record(void) {
     case 4: w[LENS + any(4)] = PAYLOAD + 1; break;
     case 5: w[L] = w[G] - 2 - any(2); break;
     case 6: w[L] = w[G] + 1; break;
+    case 7: w[H] = w[S] + WIDEST; break;
+    case 8: w[H] = w[S] + WIDEST + 1; break;
+    case 9: w[G] = w[L] = w[R] + 5; break;
     default: w[S + any(5)] = counter(); break;
     }
 }
@@ -102,10 +126,11 @@ static size_t any_packet(uint8_t *p) {
     const uint32_t *w = slot(any(SLOTS));
     for (int tries = 0; tries < 8 && (w[STATE] == CLOSED || w[STATE] == FIN_RECEIVED); tries++) w = slot(any(SLOTS));
     uint32_t flags = any(8) < 5 ? DATA : once_in(4) ? FIN : ACK, sid = w[SID], sent = w[H] - w[S], left = w[G] - w[R];
-    uint32_t wndw = w[H] + (sent < 4 ? any(5 - sent) : 0), seqnum = w[R] + (left < 4 ? any(left + 1) : any(5));
+    uint32_t wider = once_in(8) ? width(WIDEST) : once_in(3) ? any(5) : 0, most = sent > WIDEST ? 0 : WIDEST - sent, wndw = w[H] + (wider < most ? wider : most);
+    uint32_t seqnum = w[R] + (left < 4 ? any(left + 1) : any(5));
     if (flags == DATA && w[STATE] == ESTABLISHED && !once_in(30)) seqnum = w[R] + 1;
     if (record[ROLE] == SERVER ? w[STATE] == CLOSED || once_in(12) : once_in(200)) {
-        flags = SYN, seqnum = 0, wndw = 4;
+        flags = SYN, seqnum = 0, wndw = 4 + (once_in(2) ? 0 : width(WIDEST - 4));
         if (!once_in(30)) sid = sid_like();
     }
     size_t length = HEADER + (flags == DATA ? any(PAYLOAD + 1) : 0);
@@ -118,12 +143,21 @@ static size_t any_packet(uint8_t *p) {
     return length;
 }
 
+// A WNDW just outside its range: below four or the session's H, or past the widest window.
+static uint32_t wrong_wndw(const uint8_t *p) {
+    const uint32_t *w = session(p[2] | p[3] << 8);
+    if (p[1] == SYN || !w) return once_in(2) ? 3 : WIDEST + 1 + any(2);
+    return once_in(2) ? w[H] - 1 : w[S] + WIDEST + 1 + any(2);
+}
+
 static void damage_packet(uint8_t *p) {
-    switch (any(5)) {
+    switch (any(7)) {
     case 0: put(p + 4, HEADER + length_like(), 4); break;
     case 1: put(p + 8, counter(), 4); break;
     case 2: put(p + 12, counter(), 4); break;
-    case 3: p[any(HEADER)] ^= 1 << any(8); break;
+    case 3:
+    case 4: put(p + 12, wrong_wndw(p), 4); break;
+    case 5: p[any(HEADER)] ^= 1 << any(8); break;
     default: p[any(HEADER)] = any(256); break;
     }
 }
@@ -140,14 +174,12 @@ static struct Side {
 // ACK room alone.
 enum { WITH_ACK, WITHOUT, ROOMLESS, AFTER_FIN, WANTING, SORTS };
 
-static uint64_t seen[CALLS][31], cells[2][4][9], sorts[SORTS];
+// The sorts of windows: SYNs that grant more than four, the most, one more than that (27) and three (27); other packets with a WNDW more than four past
+// S, as far as it may be, one farther (28) and one below H (28); sends with H more than four past S; records with H as far past S as it may be, and one
+// farther (12).
+enum { SYN_MORE, SYN_MOST, SYN_OVER, SYN_THREE, MORE, MOST, OVER, LESS, SENT, WIDE, TOO_WIDE, WIDTHS };
 
-// The words of a session in use.
-static const uint32_t *session(uint32_t sid) {
-    for (int i = 0; i < SLOTS; i++)
-        if (slot(i)[STATE] != CLOSED && slot(i)[SID] == sid) return slot(i);
-    return NULL;
-}
+static uint64_t seen[CALLS][31], cells[2][4][9], sorts[SORTS], widths[WIDTHS];
 
 // The state that a SID is in.
 static uint32_t state_of(uint32_t sid) {
@@ -165,6 +197,41 @@ static void sort_read(uint32_t sid, size_t storage, size_t out, size_t ack, cons
     sorts[ROOMLESS] += done && established && !acked && ack < HEADER;
     sorts[AFTER_FIN] += done && w[STATE] == FIN_RECEIVED;
     sorts[WANTING] += values[0] == 9 && storage >= STORAGE && out >= w[LENS + (w[G] - 3) % 4];
+}
+
+static uint32_t get32(const uint8_t *p) {
+    return p[0] | p[1] << 8 | p[2] << 16 | (uint32_t)p[3] << 24;
+}
+
+// Counts a take of a packet with a whole header by its WNDW, with the record as it was before.
+static void sort_take(const uint8_t *p, uint64_t number) {
+    const uint32_t *w = session(p[2] | p[3] << 8);
+    uint32_t wndw = get32(p + 12), b = w ? wndw - w[S] : 0;
+    if (p[1] == SYN) {
+        widths[SYN_MORE] += number == 0 && wndw > 4;
+        widths[SYN_MOST] += number == 0 && wndw == WIDEST;
+        widths[SYN_OVER] += number == 27 && get32(p + 8) == 0 && wndw == WIDEST + 1;
+        widths[SYN_THREE] += number == 27 && get32(p + 8) == 0 && wndw == 3;
+    } else if (w) {
+        widths[MORE] += number == 0 && b > 4;
+        widths[MOST] += number == 0 && b == WIDEST;
+        widths[OVER] += number == 28 && b == WIDEST + 1;
+        widths[LESS] += number == 28 && w[H] - w[S] > 4 && wndw == w[H] - 1;
+    }
+}
+
+// Counts a call by the windows in the record as it was before.
+static void sort_record(uint32_t call, uint32_t sid, uint64_t number) {
+    const uint32_t *w = session(sid);
+    int wide = 0, too_wide = 0;
+    for (int i = 0; i < SLOTS; i++) {
+        uint32_t a = slot(i)[H] - slot(i)[S];
+        wide |= slot(i)[STATE] != CLOSED && a == WIDEST;
+        too_wide |= slot(i)[STATE] != CLOSED && a == WIDEST + 1;
+    }
+    widths[SENT] += call == SEND && number == 0 && w && w[H] - w[S] > 4;
+    widths[WIDE] += call != START && number != 12 && wide;
+    widths[TOO_WIDE] += number == 12 && too_wide;
 }
 
 static size_t room(size_t usual) {
@@ -192,11 +259,13 @@ static void step(unsigned long n, uint32_t damage) {
     }
     if (call == TAKE && ours.values[0] == 0) cells[record[ROLE]][state_of(ours.values[3])][ours.values[2]]++;
     if (call == READ) sort_read(sid, storage, out, ack, ours.values);
+    if (call == TAKE && given >= HEADER) sort_take(bytes, ours.values[0]);
+    sort_record(call, sid, ours.values[0]);
     seen[call][ours.values[0]]++;
     memcpy(record, ours.record, sizeof record);
 }
 
-// ---- each call gives each of its numbers, take does what each cell of its table says, at both ends, and reads are of each sort
+// ---- each call gives each of its numbers, take does what each cell of its table says, at both ends, and reads and windows are of each sort
 
 static const uint8_t numbers[CALLS][24] = {
     [START] = {0},
@@ -229,6 +298,12 @@ static int all_seen(void) {
         (unsigned long)sorts[WITH_ACK], (unsigned long)sorts[WITHOUT], (unsigned long)sorts[ROOMLESS], (unsigned long)sorts[AFTER_FIN],
         (unsigned long)sorts[WANTING]);
     for (int i = 0; i < SORTS; i++) good &= sorts[i] > 0;
+    printf("  windows: SYN over 4 %lu, 2^31 - 1 %lu, 2^31 %lu, 3 %lu; WNDW - S over 4 %lu, 2^31 - 1 %lu, 2^31 %lu; WNDW = H - 1 %lu; sends with H - S over 4 %lu; "
+        "H - S 2^31 - 1 %lu, 2^31 %lu\n",
+        (unsigned long)widths[SYN_MORE], (unsigned long)widths[SYN_MOST], (unsigned long)widths[SYN_OVER], (unsigned long)widths[SYN_THREE],
+        (unsigned long)widths[MORE], (unsigned long)widths[MOST], (unsigned long)widths[OVER], (unsigned long)widths[LESS], (unsigned long)widths[SENT],
+        (unsigned long)widths[WIDE], (unsigned long)widths[TOO_WIDE]);
+    for (int i = 0; i < WIDTHS; i++) good &= widths[i] > 0;
     return good;
 }
 
@@ -249,6 +324,6 @@ int main(int argc, char **argv) {
     }
     printf("%lu calls, the same numbers, values, records and bytes; how often each number came:\n", n);
     if (all_seen()) return 0;
-    printf("a number or a sort of read never came, or a cell was never reached\n");
+    printf("a number, a sort of read or a sort of window never came, or a cell was never reached\n");
     return 1;
 }

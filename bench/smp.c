@@ -1,12 +1,19 @@
-// The seven calls as a C programmer would write them from document 01, with request (i): the record behind a pointer and changed in place, every
-// check in the document's order. -DUNCHECKED=1 leaves out the one that the record is well made. -DWINDOW=5 and -DNOTICE=1 are wrong ends, which the
-// comparison must notice.
+// The seven calls as a C programmer would write them from document 01, with requests (i) and (ii): the record behind a pointer and changed in place,
+// every check in the document's order. -DUNCHECKED=1 leaves out the one that the record is well made. -DWINDOW=5, -DNOTICE=1, -DHIGHEST=2147483646 and
+// -DHIGHEST=2147483648 are wrong ends, which the comparison must notice.
 #include "bench.h"
 #include <stdbool.h>
 #include <string.h>
 
+// Our own window.
 #ifndef WINDOW
 #define WINDOW 4
+#endif
+
+// What a peer may grant: a SYN from LEAST to HIGHEST, any other packet up to HIGHEST past S.
+#define LEAST 4
+#ifndef HIGHEST
+#define HIGHEST 2147483647
 #endif
 
 // A read announces a G that is so far past L, or farther.
@@ -43,7 +50,7 @@ typedef struct {
 static bool in_order(const Session *x) {
     const uint16_t *n = x->lens;
     if (x->state != CLOSED)
-        return x->h - x->s <= WINDOW && x->g - x->r <= WINDOW && x->g - x->l <= 1 && n[0] <= PAYLOAD && n[1] <= PAYLOAD && n[2] <= PAYLOAD && n[3] <= PAYLOAD;
+        return x->h - x->s <= HIGHEST && x->g - x->r <= WINDOW && x->g - x->l <= 1 && n[0] <= PAYLOAD && n[1] <= PAYLOAD && n[2] <= PAYLOAD && n[3] <= PAYLOAD;
     return !x->sid && !x->s && !x->h && !x->r && !x->g && !x->l && !n[0] && !n[1] && !n[2] && !n[3];
 }
 
@@ -76,8 +83,9 @@ static Session *free_slot(End *e) {
     return NULL;
 }
 
-static Session fresh(uint16_t sid) {
-    return (Session){.state = ESTABLISHED, .sid = sid, .h = WINDOW, .g = WINDOW, .l = WINDOW};
+// H is 4 at a client; at a server it is what the SYN grants.
+static Session fresh(uint16_t sid, uint32_t h) {
+    return (Session){.state = ESTABLISHED, .sid = sid, .h = h, .g = WINDOW, .l = WINDOW};
 }
 
 static void down(End *e) {
@@ -147,7 +155,7 @@ static Answer open(End *e, LENT(packet)) {
     if (packet_n < HEADER) return refused(9);
     uint16_t sid = 0;
     while (find(e, sid)) sid++;
-    *x = fresh(sid);
+    *x = fresh(sid, WINDOW);
     emit(x, packet, SYN, HEADER);
     return (Answer){.sid = sid, .length = HEADER};
 }
@@ -235,14 +243,14 @@ static Taken take(End *e, GIVEN(bytes), LENT(storage)) {
         if (x) return fault(e, 25);
         x = free_slot(e);
         if (!x) return fault(e, 26);
-        if (seqnum != 0 || wndw != 4) return fault(e, 27);
-        *x = fresh(sid);
+        if (seqnum != 0 || wndw < LEAST || wndw > HIGHEST) return fault(e, 27);
+        *x = fresh(sid, wndw);
         return done;
     }
     if (!x) return fault(e, 23);
     if (x->state == FIN_RECEIVED) return fault(e, 30);
     uint32_t a = x->h - x->s, b = wndw - x->s;
-    if (a > b || b > WINDOW) return fault(e, 28);
+    if (a > b || b > HIGHEST) return fault(e, 28);
     bool next = seqnum == x->r + 1 && x->r != x->g, within = seqnum - x->r <= x->g - x->r;
     if (!(flags == DATA && x->state == ESTABLISHED ? next : within)) return fault(e, 29);
     if (x->state == FIN_SENT) {

@@ -1,8 +1,11 @@
 //! The checks of all calls of `end.rs`: a table of what each call asks, in document 01's order,
-//! and one function that finds the first ask that fails.
+//! and one function that finds the first ask that fails. The ranges of 27 and 28 are those of
+//! document 02, (ii).
 
 use crate::packet::{Header, ACK, DATA, FIN, HEADER, PAYLOAD, SMID, SYN};
-use crate::record::{End, Slot, ESTABLISHED, FIN_RECEIVED, FIN_SENT, FREE, STORAGE, WINDOW};
+use crate::record::{
+    End, Slot, ESTABLISHED, FIN_RECEIVED, FIN_SENT, FREE, HIGHEST_GRANT, LOWEST_GRANT, STORAGE,
+};
 
 #[derive(Clone, Copy)]
 pub enum Ask {
@@ -137,11 +140,13 @@ impl End {
                 _ => header.length as usize == HEADER,
             },
             Ask::WholePacket => given.bytes.len() >= header.length as usize,
-            Ask::SynFields => header.seqnum == 0 && header.wndw == WINDOW,
+            Ask::SynFields => {
+                header.seqnum == 0 && (LOWEST_GRANT..=HIGHEST_GRANT).contains(&header.wndw)
+            }
             Ask::Wndw => {
-                let a = slot.h.wrapping_sub(slot.s);
+                let a = slot.window();
                 let b = header.wndw.wrapping_sub(slot.s);
-                a <= b && b <= WINDOW
+                a <= b && b <= HIGHEST_GRANT
             }
             Ask::Seqnum if header.flags == DATA && slot.state == ESTABLISHED => {
                 header.seqnum == slot.r.wrapping_add(1) && slot.r != slot.g

@@ -177,8 +177,9 @@ pub fn compare(
         tally.lock().expect("no panic").join(one);
     };
     let add_feed = |case: &Case| {
-        let report = feed::report(&case.groups.concat().concat());
-        tally.lock().expect("no panic").add_feed(&report);
+        let capture = case.groups.concat().concat();
+        let report = feed::report(&capture);
+        tally.lock().expect("no panic").add_feed(&capture, &report);
     };
     let edge = |inputs: &[Vec<u8>], i: usize| Case {
         name: format!("fixed input {i}"),

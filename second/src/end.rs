@@ -1,10 +1,10 @@
-//! The calls of document 01 on one end, with request (i) of document 02, for `calls`: they change
-//! its record and the lent storage in place. What they ask before they change anything is in
-//! `checks.rs`.
+//! The calls of document 01 on one end, with requests (i) and (ii) of document 02, for `calls`:
+//! they change its record and the lent storage in place. What they ask before they change anything
+//! is in `checks.rs`.
 
 use crate::checks::{Given, CLOSE, OPEN, READ, SEND, SHUTDOWN, TAKE, TAKE_OTHER, TAKE_SYN};
 use crate::packet::{packet, Header, ACK, DATA, FIN, HEADER, PAYLOAD, SYN};
-use crate::record::{place, End, Slot, ESTABLISHED, FIN_RECEIVED, FIN_SENT, PLACES};
+use crate::record::{place, End, Slot, ESTABLISHED, FIN_RECEIVED, FIN_SENT, PLACES, WINDOW};
 
 /// What a call gives back. All but the number is zero on a refusal (but for 10's `missing`).
 #[derive(Default, Debug, PartialEq)]
@@ -39,7 +39,7 @@ impl End {
         }
         let sid = (0..=u16::MAX).find(|&sid| self.find(sid).is_none()).expect("sixteen at most");
         let free = self.free_slot().expect("checked");
-        self.slots[free] = Slot::fresh(sid);
+        self.slots[free] = Slot::fresh(sid, WINDOW);
         let front = emit(&mut self.slots[free], SYN, &[], room);
         Answer { sid, front, ..Answer::default() }
     }
@@ -124,7 +124,7 @@ impl End {
         let header = header.expect("checked");
         if is_syn {
             let free = self.free_slot().expect("checked");
-            self.slots[free] = Slot::fresh(sid);
+            self.slots[free] = Slot::fresh(sid, header.wndw);
         } else {
             self.accept(&header, &bytes[HEADER..header.length as usize]);
         }

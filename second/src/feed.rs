@@ -1,6 +1,7 @@
 //! `feed` by document 01, "The line program". It shares no types with `record.rs`: sessions stand
 //! in a map by SID, payloads in queues, and a session's unread packets are its queue's length.
-//! A fresh server never sends, reads or closes, so only its take is here.
+//! A fresh server never sends, reads or closes, so only its take is here. What a peer may grant is
+//! as in document 02, (ii).
 
 use crate::packet::{unhex, Header, ACK, DATA, FIN, HEADER, PAYLOAD, SMID, SYN};
 use std::collections::{BTreeMap, VecDeque};
@@ -8,7 +9,11 @@ use std::collections::{BTreeMap, VecDeque};
 pub const INPUT: usize = 65_536;
 const LONGEST_FRAME: usize = HEADER + PAYLOAD;
 const MOST_SESSIONS: usize = 16;
+/// Our own window, which stays 4.
 const MOST_UNREAD: usize = 4;
+/// What a peer may grant: a SYN at least 4, no packet over 2,147,483,647 past what we have sent.
+const LEAST_GRANTED: u64 = 4;
+const MOST_GRANTED: u64 = (1 << 31) - 1;
 const TURN: u64 = 1 << 32;
 
 /// Counters never wrap here; they are reduced where they meet a packet's field.
@@ -38,7 +43,7 @@ impl Session {
             return Err(30);
         }
         let window = beyond(header.wndw, self.sent);
-        if window < self.allowed_beyond_sent || window > MOST_UNREAD as u64 {
+        if window < self.allowed_beyond_sent || window > MOST_GRANTED {
             return Err(28);
         }
         let ahead = beyond(header.seqnum, self.received);
@@ -105,10 +110,10 @@ fn handle(sessions: &mut BTreeMap<u16, Session>, frame: &[u8]) -> Result<(), u32
     if sessions.len() == MOST_SESSIONS {
         return Err(26);
     }
-    if header.seqnum != 0 || header.wndw != MOST_UNREAD as u32 {
+    let allowed_beyond_sent = u64::from(header.wndw);
+    if header.seqnum != 0 || !(LEAST_GRANTED..=MOST_GRANTED).contains(&allowed_beyond_sent) {
         return Err(27);
     }
-    let allowed_beyond_sent = MOST_UNREAD as u64;
     sessions.insert(header.sid, Session { allowed_beyond_sent, ..Session::default() });
     Ok(())
 }

@@ -1,4 +1,4 @@
-//! A second implementation of the two line programs `feed` and `calls` by documents 01 and 002,
+//! A second implementation of the two line programs `feed` and `calls` by documents 01, 02 and 002,
 //! with a generator of inputs and a comparer. It is there to catch a misreading of the documents
 //! in the first implementation, so it shares no code with it.
 

@@ -7,6 +7,8 @@ mod damage;
 pub mod edges;
 mod faults;
 mod fields;
+mod grants;
+mod peer;
 mod records;
 mod script;
 mod talk;

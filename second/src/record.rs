@@ -1,13 +1,21 @@
-//! The records of document 01 with the L of request (i), for `calls`: a session's slot, and an end
-//! with its sixteen slots and the lent storage. Here is what a record tells by itself; the calls are
-//! in `end.rs`.
+//! The records of document 01 with the L of request (i) and the H of request (ii), for `calls`: a
+//! session's slot, and an end with its sixteen slots and the lent storage. Here is what a record
+//! tells by itself; the calls are in `end.rs`.
 
 use crate::packet::PAYLOAD;
 
 pub const SLOTS: usize = 16;
 pub const PLACES: usize = 4;
 pub const STORAGE: usize = SLOTS * PLACES * PAYLOAD;
+/// Our own window: G - R is never over it, and our SYN grants it. Document 02, (ii): "Our own
+/// receive window stays 4."
 pub const WINDOW: u32 = 4;
+/// The lowest window that a SYN may grant us. Document 02, (ii): "A SYN may grant 4 to
+/// 2,147,483,647, which becomes H."
+pub const LOWEST_GRANT: u32 = 4;
+/// The highest window that a peer may grant us, with a SYN or later. Document 02, (ii): "WNDW is
+/// now in range when a <= b <= 2,147,483,647, and a well-made record has H - S up to that."
+pub const HIGHEST_GRANT: u32 = 2_147_483_647;
 /// A read announces a G that is so far past L, or farther.
 pub const NOTICE: u32 = 2;
 
@@ -30,8 +38,15 @@ pub struct Slot {
 }
 
 impl Slot {
-    pub fn fresh(sid: u16) -> Slot {
-        Slot { state: ESTABLISHED, sid, h: WINDOW, g: WINDOW, l: WINDOW, ..Slot::default() }
+    /// A new session. A client, whom nobody has granted anything yet, has an H of 4; at a server H
+    /// is what the SYN grants.
+    pub fn fresh(sid: u16, h: u32) -> Slot {
+        Slot { state: ESTABLISHED, sid, h, g: WINDOW, l: WINDOW, ..Slot::default() }
+    }
+
+    /// H less S: how many packets the peer still lets us send.
+    pub fn window(&self) -> u32 {
+        self.h.wrapping_sub(self.s)
     }
 
     pub fn is_all_zeros(&self) -> bool {
@@ -105,7 +120,7 @@ impl End {
                 continue;
             }
             let good = self.up
-                && slot.h.wrapping_sub(slot.s) <= WINDOW
+                && slot.window() <= HIGHEST_GRANT
                 && slot.g.wrapping_sub(slot.r) <= WINDOW
                 && slot.untold() <= 1
                 && slot.lengths.iter().all(|&length| usize::from(length) <= PAYLOAD);

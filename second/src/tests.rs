@@ -1,6 +1,8 @@
-//! Tests worked out from document 01: its bench values, its listing, and a few lines of `calls`.
-//! Those of document 02's request (i) are in `tests/notices.rs`.
+//! Tests worked out from document 01: its bench values (number 9 as request (ii) has it), its
+//! listing, and a few lines of `calls`. Those of document 02's request (i) are in
+//! `tests/notices.rs`, those of its request (ii) in `tests/grants.rs`.
 
+mod grants;
 mod notices;
 
 use crate::calls::{answers, Calls};
@@ -32,7 +34,7 @@ fn listing() {
 
 #[test]
 fn bench_values() {
-    let end = server_with(Slot::fresh(5));
+    let end = server_with(Slot::fresh(5, 4));
     let ack = packet(ACK, 5, 0, 4, &[]);
     let data = packet(DATA, 5, 1, 4, &[7; 513]);
     assert_eq!(number(&end, ack.clone(), |h| h.flags = 0x06), 21);
@@ -53,7 +55,7 @@ fn bench_values() {
     });
     let ack = packet(ACK, 5, 0, 3, &[]);
     assert_eq!(number(&end, ack.clone(), |h| h.wndw = 3), 0);
-    assert_eq!(number(&end, ack.clone(), |h| h.wndw = 4), 28);
+    assert_eq!(number(&end, ack.clone(), |h| h.wndw = 4), 0);
     assert_eq!(number(&end, ack, |h| h.wndw = 2), 28);
     let mut room = [0; 16];
     assert_eq!(end.send(5, &[], &mut room).number, 0);

@@ -11,15 +11,19 @@ use Rattle.session.specs.declared.record.State.{State}
 use Rattle.session.specs.declared.record.State.the-variants.{Closed, Established, FinSent, FinReceived}
 use Rattle.session.specs.declared.record.Session.{Session}
 use Rattle.session.specs.Counter.{minus, plus}
-use Rattle.session.specs.Record.{inUse, Fits}
+use Rattle.session.specs.Record.{least, inUse, Fits}
 use Rattle.session.specs.Well.{InOrder}
 use Rattle.session.proofs.Kept.{Keeps, free-keeps, same-keeps, granted-in, stored-keeps}
-use Rattle.effect.specs.Taken.{windowInRange, seqnumInRange, cellOf, becomes}
+use Rattle.effect.specs.Taken.{windowInRange, grantInRange, seqnumInRange, cellOf, becomes}
 
 -- WNDW in range is at most the highest window past S
 pub highest : (most : ℕ) (x : Session) (wndw : ℕ) → windowInRange most x wndw ≡ true → minus wndw (x .s) ≤ most
 unfolding windowInRange
 highest most x wndw p = leb-true _ _ (and-split (leb (minus (x .h) (x .s)) (minus wndw (x .s))) (leb (minus wndw (x .s)) most) p .1)
+
+-- what a SYN may grant is at most the highest window
+pub granted-most : (most wndw : ℕ) → grantInRange most wndw ≡ true → wndw ≤ most
+granted-most most wndw p = leb-true _ _ (and-split (leb least wndw) (leb wndw most) p .1)
 
 module _ {most limit : ℕ} {x : Session} (o : InOrder most limit x) (f : Fits x) (u : inUse (x .state) ≡ true)
     (seqnum wndw n : ℕ) (hs : seqnum < 2 ^ 32) (hw : wndw < 2 ^ 32) (hn : n ≤ limit) (ranged : windowInRange most x wndw ≡ true) where

@@ -1,4 +1,4 @@
--- What a packet makes of one record (document 01, "What take does with a packet").
+-- What a packet makes of one record (document 01, "What take does with a packet"; document 02, (ii)).
 use Prim.Native.Nat.{ℕ}
 use mathlib.Core.Bool.{Bool, true, false, not, _&&_}
 use lib.Dec.{eqb, leb}
@@ -11,12 +11,16 @@ use Rattle.session.specs.declared.record.Session.{Session}
 use Rattle.effect.specs.declared.cell.Cell.{Cell}
 use Rattle.effect.specs.declared.cell.Cell.the-variants.{Store, Grant, End, Ignore, Free, Fault}
 use Rattle.session.specs.Counter.{minus, plus}
-use Rattle.session.specs.Record.{established, free}
+use Rattle.session.specs.Record.{least, established, free}
 use Rattle.session.specs.Changes.{withState, storedOn, grantedOn}
 
 -- with a = H - S and b = WNDW - S, WNDW is in range when a <= b <= most
 unfoldable pub windowInRange : ℕ → Session → ℕ → Bool
 windowInRange most x wndw = leb (minus (x .h) (x .s)) (minus wndw (x .s)) && leb (minus wndw (x .s)) most
+
+-- a SYN may grant 4 to most
+abbrev pub grantInRange : ℕ → ℕ → Bool
+grantInRange most wndw = leb least wndw && leb wndw most
 
 -- ---- the table
 

@@ -1,6 +1,6 @@
-// WNDW and SEQNUM in range, for a session that a packet names.
+// WNDW in range for a SYN; WNDW and SEQNUM in range for a session that a packet names.
 ghost use mathlib.Core.Path.{_≡_};
-ghost use Rattle.effect.specs.Taken.{windowInRange, isData, seqnumInRange};
+ghost use Rattle.effect.specs.Taken.{windowInRange, grantInRange, isData, seqnumInRange};
 use cases::both;
 use session::counter;
 use session::record::Session;
@@ -13,6 +13,13 @@ pub fn window_in_range(x: Session, most: u32, wndw: u32) -> bool
     let a = counter::minus(x.h, x.s);
     let b = counter::minus(wndw, x.s);
     a <= b && b <= most
+}
+
+// Whether a SYN's WNDW is in range: the least or more, and not past the highest.
+pub fn grant_in_range(most: u32, wndw: u32) -> bool
+    ensures { λ r. ⌜ r ≡ grantInRange most wndw ⌝ }
+{
+    Session::LEAST <= wndw && wndw <= most
 }
 
 fn is_data(k: Kind) -> bool

@@ -42,11 +42,11 @@ skipped m cs e = rw e
 -- ---- by kind
 
 module _ (k : Kind) (role : Role) (held none : Bool) (x : Session) (h : Header) where
-  pub syn-stops : {n : ℕ} → k ≡ Syn → n ≡ first (synCases role held none h) → (n ≡ 0 → ⊥) → Stop n ≡ kindActOf k role held none x h
+  pub syn-stops : {n : ℕ} → k ≡ Syn → n ≡ first (synCases base role held none h) → (n ≡ 0 → ⊥) → Stop n ≡ kindActOf k role held none x h
   unfolding kindActOf
   syn-stops p q f = rw p (stops Begin q f)
 
-  pub syn-begins : {n : ℕ} → k ≡ Syn → n ≡ first (synCases role held none h) → n ≡ 0 → Begin ≡ kindActOf k role held none x h
+  pub syn-begins : {n : ℕ} → k ≡ Syn → n ≡ first (synCases base role held none h) → n ≡ 0 → Begin ≡ kindActOf k role held none x h
   unfolding kindActOf
   syn-begins p q z = rw p (goes Begin q z)
 

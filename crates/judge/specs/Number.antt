@@ -13,8 +13,8 @@ use Rattle.wire.specs.declared.kind.Flags.{Flags}
 use Rattle.wire.specs.declared.kind.Flags.the-variants.{One, Wrong}
 use Rattle.wire.specs.Packet.{headerLength, readHeader, flagsOf, headerCases}
 use Rattle.session.specs.declared.record.Session.{Session}
-use Rattle.session.specs.Record.{window, finReceived}
-use Rattle.effect.specs.Taken.{windowInRange, seqnumInRange}
+use Rattle.session.specs.Record.{finReceived}
+use Rattle.effect.specs.Taken.{windowInRange, grantInRange, seqnumInRange}
 use Rattle.table.specs.declared.end.Role.{Role}
 use Rattle.table.specs.declared.end.Role.the-variants.{Client, Server}
 use Rattle.table.specs.declared.end.End.{End}
@@ -28,12 +28,12 @@ isClient Client = true
 isClient Server = false
 
 -- for SYN 24, 25, 26, 27
-abbrev pub synCases : Role → Bool → Bool → Header → List Case
-synCases role held none h =
+abbrev pub synCases : Limits → Role → Bool → Bool → Header → List Case
+synCases lim role held none h =
     isClient role ⇒ 24
     ∷ held ⇒ 25
     ∷ none ⇒ 26
-    ∷ not (eqb (h .seqnum) 0 && eqb (h .wndw) window) ⇒ 27
+    ∷ not (eqb (h .seqnum) 0 && grantInRange (lim .window) (h .wndw)) ⇒ 27
     ∷ []
 
 -- for others 23, 30, 28, 29
@@ -46,7 +46,7 @@ otherCases lim k held x h =
     ∷ []
 
 abbrev pub kindCases : Limits → Flags → Role → Bool → Bool → Session → Header → List Case
-kindCases lim (One Syn) role held none x h = synCases role held none h
+kindCases lim (One Syn) role held none x h = synCases lim role held none h
 kindCases lim (One Ack) role held none x h = otherCases lim Ack held x h
 kindCases lim (One Fin) role held none x h = otherCases lim Fin held x h
 kindCases lim (One Data) role held none x h = otherCases lim Data held x h

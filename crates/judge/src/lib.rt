@@ -9,6 +9,7 @@ use cases::both;
 use cases::number;
 use effect::cell::Cell;
 use effect::cell::cell_of;
+use effect::range::grant_in_range;
 use effect::range::seqnum_in_range;
 use effect::range::window_in_range;
 use scan::Look;
@@ -77,7 +78,7 @@ fn is_client(role: Role) -> bool
 
 // For SYN: 24, 25, 26, 27.
 fn syn_number(role: Role, held: bool, none: bool, h: Header) -> u8
-    ensures { λ r. ⌜ r ≡ first (synCases role held none h) ⌝ }
+    ensures { λ r. ⌜ r ≡ first (synCases base role held none h) ⌝ }
 {
     if is_client(role) {
         return number::SYN_AT_CLIENT;
@@ -88,7 +89,7 @@ fn syn_number(role: Role, held: bool, none: bool, h: Header) -> u8
     if none {
         return number::SYN_NO_FREE_SLOT;
     }
-    if !both(h.seqnum == 0, h.wndw == Session::WINDOW) {
+    if !both(h.seqnum == 0, grant_in_range(Session::HIGHEST, h.wndw)) {
         return number::SYN_NOT_FRESH;
     }
     number::DONE
@@ -105,7 +106,7 @@ fn other_number(k: Kind, held: bool, x: Session, h: Header) -> u8
     if st.fin_received() {
         return number::AFTER_FIN;
     }
-    if !window_in_range(x, Session::WINDOW, h.wndw) {
+    if !window_in_range(x, Session::HIGHEST, h.wndw) {
         return number::WNDW;
     }
     if !seqnum_in_range(x, k, h.seqnum) {

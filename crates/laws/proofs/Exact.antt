@@ -21,8 +21,9 @@ use Rattle.wire.proofs.Flags.{flags-named, value-of-flags}
 use Rattle.session.specs.declared.record.State.{State}
 use Rattle.session.specs.declared.record.State.the-variants.{Closed, Established, FinSent, FinReceived}
 use Rattle.session.specs.declared.record.Session.{Session}
-use Rattle.session.specs.Record.{window, payloadLimit, established, finSent, finReceived, unread}
+use Rattle.session.specs.Record.{highest, payloadLimit, established, finSent, finReceived, unread}
 use Rattle.session.specs.Notice.{due}
+use Rattle.effect.specs.Taken.{grantInRange}
 use Rattle.table.specs.declared.end.Role.{Role}
 use Rattle.table.specs.declared.end.Role.the-variants.{Client, Server}
 use Rattle.table.specs.declared.end.End.{End}
@@ -43,13 +44,13 @@ use Rattle.read.specs.Read.{oldestLength, readCases, readNumber, readOf, ReadPr
 use Rattle.close.specs.Close.{closeCases, closeNumber, closeOf, ClosePromise}
 use Rattle.shutdown.specs.Shutdown.{shutdownCases, shutdownNumber, shutdownOf, ShutdownPromise}
 use Rattle.judge.specs.Number.{isClient, synCases, otherCases, kindCases, packetCases, takeCases, takeNumber}
-use Rattle.take.specs.Take.{takeAnswer, takeOf, TakePromise}
+use Rattle.take.specs.Take.{takeOf, TakePromise}
 use Rattle.take.proofs.Answered.{take-told}
 use Rattle.laws.specs.When.{When, when, Exactly}
-use Rattle.laws.specs.Plain.{Due}
+use Rattle.laws.specs.Plain.{MayGrant, Due}
 use Rattle.laws.specs.Whens.{isWell, isUp, isHeld, Short, Enough, openWhens, sendWhens, readWhens, closeWhens, shutdownWhens, synWhens}
 use Rattle.laws.specs.Whens.{otherWhens, kindWhens, packetWhens, takeWhens}
-use Rattle.laws.proofs.Plain.{Tells, held, fully, sized, windowed, sequenced, in-established, noticed}
+use Rattle.laws.proofs.Plain.{Tells, held, fully, sized, windowed, granted, sequenced, in-established, noticed}
 use Rattle.laws.proofs.Matching.{Is, Match, ends, goes, exactly, is, isnt, plainly, below, equal}
 
 -- ---- an answer gives its number
@@ -210,14 +211,14 @@ shutdown-exact {e} p = exactly (shutdown-match e) (ap (λ (r : Stopped). r .numb
 
 -- ---- take
 
-fresh-syn : {n : ℕ} (q w : ℕ) → Is (not (eqb q 0 && eqb w window)) (when n ((q ≡ 0) × (w ≡ window) → ⊥) ((q ≡ 0) × (w ≡ window)))
+fresh-syn : {n : ℕ} (q w : ℕ) → Is (not (eqb q 0 && grantInRange highest w)) (when n ((q ≡ 0) × MayGrant w → ⊥) ((q ≡ 0) × MayGrant w))
 fresh-syn q w =
-    isnt (eqb q 0 && eqb w window)
-    (λ p a. never (sym p ∙ and-both (eqb q 0) (eqb w window) (eq-eqb _ _ (a .0)) (eq-eqb _ _ (a .1))))
-    (λ p. let t = and-split (eqb q 0) (eqb w window) p in (eqb-true _ _ (t .0), eqb-true _ _ (t .1)))
+    isnt (eqb q 0 && grantInRange highest w)
+    (λ p a. never (sym p ∙ and-both (eqb q 0) (grantInRange highest w) (eq-eqb _ _ (a .0)) (granted w .back (a .1))))
+    (λ p. let t = and-split (eqb q 0) (grantInRange highest w) p in (eqb-true _ _ (t .0), granted w .to (t .1)))
     (λ f a. f a)
 
-syn-match : (e : End) (h : Header) → Match (synCases (e .role) (holds (h .sid) (e .slots)) (full (e .slots)) h) (synWhens e h)
+syn-match : (e : End) (h : Header) → Match (synCases base (e .role) (holds (h .sid) (e .slots)) (full (e .slots)) h) (synWhens e h)
 syn-match e h =
     goes refl (some 24 refl) (client (e .role))
     (goes refl (some 25 refl) (told-is (held (h .sid) e))

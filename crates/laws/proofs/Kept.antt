@@ -11,7 +11,7 @@ use lib.ListN.{length}
 use lib.Dec.{eqb, ltb}
 use borrow.Author.Tests.{eqb-true, eqb-false, ltb-false, not-false}
 use Rattle.cases.specs.Cases.{Case, _⇒_, if, first, done}
-use Rattle.cases.proofs.Tests.{never}
+use Rattle.cases.proofs.Tests.{never, and-split}
 use Rattle.cases.proofs.First.{numbered, test, clear}
 use Rattle.wire.specs.declared.header.Header.{Header}
 use Rattle.wire.specs.declared.kind.Kind.{Kind}
@@ -26,11 +26,11 @@ use Rattle.session.specs.declared.record.State.{State}
 use Rattle.session.specs.declared.record.State.the-variants as state
 use Rattle.session.specs.declared.record.Session.{Session}
 use Rattle.session.specs.Record as record'
-use Rattle.session.specs.Record.{window, payloadLimit, freshOf, inUse, established, finSent, finReceived, unread}
+use Rattle.session.specs.Record.{window, freshOf, inUse, established, finSent, finReceived, unread}
 use Rattle.session.specs.Well.{InOrder}
-use Rattle.session.specs.Changes.{sentOn, readOn, closedOn}
+use Rattle.session.specs.Changes.{sentOn, readOn, closedOn, grantedOn}
 use Rattle.session.proofs.Kept.{Keeps, sent-keeps, read-keeps, closed-keeps}
-use Rattle.effect.proofs.Kept.{becomes-keeps}
+use Rattle.effect.proofs.Kept.{granted-most, becomes-keeps}
 use Rattle.table.specs.declared.end.Role.{Role}
 use Rattle.table.specs.declared.end.End.{End}
 use Rattle.table.specs.Slots.{holds, sessionOf, lowestFree, full, smallestSid}
@@ -87,7 +87,7 @@ module _ (lim : Limits) {e : End} (s : Sound lim e) where
 
       go : first cases ≡ 0 → Sound lim (table.putOf (lowestFree (e .slots)) (freshOf (smallestSid (e .slots))) e)
       go p =
-          begun-sound s low (not-false _ (clear cases 1 refl p)) (clear cases 3 refl p) (smallestSid (e .slots))
+          begun-sound s window (omega arith) low (not-false _ (clear cases 1 refl p)) (clear cases 3 refl p) (smallestSid (e .slots))
           (omega (arith, s .fits .few, smallest-within (e .slots))) (smallest-new (e .slots))
 
   -- a call that names a session: it is held, and the record that was found for it makes way for one that keeps what is asked
@@ -156,15 +156,18 @@ module _ (lim : Limits) {e : End} (s : Sound lim e) where
     all-fit rest d p = fits (ltb-false _ _ (clear (cases rest) 10 d p))
 
     -- a SYN begins a session
-    syn-held : window ≤ lim .window → first (cases (synCases (e .role) known (full (e .slots)) h)) ≡ 0
-        → Sound lim (table.putOf (lowestFree (e .slots)) (freshOf (h .sid)) e)
+    syn-held : first (cases (synCases lim (e .role) known (full (e .slots)) h)) ≡ 0
+        → Sound lim (table.putOf (lowestFree (e .slots)) (grantedOn (h .wndw) (freshOf (h .sid))) e)
     unfolding numbered test
-    syn-held low p =
-        begun-sound s low (not-false _ (clear (cases rest) 1 refl p)) (clear (cases rest) 26 refl p) (h .sid)
-        (omega (arith, all-fit rest refl p .sid)) (clear (cases rest) 25 refl p)
+    syn-held p =
+        begun-sound s (h .wndw) (omega (arith, all-fit rest refl p .wndw)) high (not-false _ (clear (cases rest) 1 refl p)) (clear (cases rest) 26 refl p)
+        (h .sid) (omega (arith, all-fit rest refl p .sid)) (clear (cases rest) 25 refl p)
       where
         rest : List Case
-        rest = synCases (e .role) known (full (e .slots)) h
+        rest = synCases lim (e .role) known (full (e .slots)) h
+
+        high : h .wndw ≤ lim .window
+        high = granted-most (lim .window) (h .wndw) (and-split (eqb (h .seqnum) 0) _ (not-false _ (clear (cases rest) 27 refl p)) .1)
 
     -- any other packet makes of its session what the table says
     other-held : (k : Kind) → flagsOf (h .flags) ≡ One k → first (cases (otherCases lim k known found h)) ≡ 0
@@ -188,18 +191,18 @@ module _ (lim : Limits) {e : End} (s : Sound lim e) where
         sound : SoundHeader (lim .place) h k
         sound = shapes.made (lim .place) h k (eqb-true _ _ (not-false _ (clear (cases rest) 20 refl p))) q (rw q at whole)
 
-    taken-held : window ≤ lim .window → (f : Flags) → flagsOf (h .flags) ≡ f
+    taken-held : (f : Flags) → flagsOf (h .flags) ≡ f
         → first (cases (kindCases lim f (e .role) known (full (e .slots)) found h)) ≡ 0 → Sound lim (takenEnd f h e)
-    taken-held low (One Syn) q p = syn-held low p
-    taken-held low (One Ack) q p = other-held Ack q p
-    taken-held low (One Fin) q p = other-held Fin q p
-    taken-held low (One Data) q p = other-held Data q p
-    taken-held low Wrong q p = s
+    taken-held (One Syn) q p = syn-held p
+    taken-held (One Ack) q p = other-held Ack q p
+    taken-held (One Fin) q p = other-held Fin q p
+    taken-held (One Data) q p = other-held Data q p
+    taken-held Wrong q p = s
 
   -- a refusal returns the record as lent, a fault the end down
-  take-held : window ≤ lim .window → (bytes : List ℕ) → AreBytes bytes → (storage : ℕ) → Sound lim (takeOf lim e bytes storage .end)
+  take-held : (bytes : List ℕ) → AreBytes bytes → (storage : ℕ) → Sound lim (takeOf lim e bytes storage .end)
   unfolding takeOf takeNumber
-  take-held low bytes all storage = either (λ (r : Taken). Sound lim (r .end)) n _ _ go (by (ltb n 20))
+  take-held bytes all storage = either (λ (r : Taken). Sound lim (r .end)) n _ _ go (by (ltb n 20))
     where
       h : Header
       h = readHeader bytes
@@ -208,7 +211,7 @@ module _ (lim : Limits) {e : End} (s : Sound lim e) where
       n = takeNumber lim e bytes storage
 
       go : n ≡ 0 → Sound lim (takenEnd (flagsOf (h .flags)) h e)
-      go = taken-held h (length bytes) storage (λ long. read-fits bytes long all) low (flagsOf (h .flags)) refl
+      go = taken-held h (length bytes) storage (λ long. read-fits bytes long all) (flagsOf (h .flags)) refl
 
       by : (b : Bool) → Sound lim ((if b (takeRefused n (missing bytes) e) (takeFault n e)) .end)
       by true = s
@@ -253,4 +256,4 @@ shutdown-kept p = rw (p .answer) (kept (λ s. shutdown-held base s))
 -- the bytes given are bytes, so the header's fields fit
 pub take-kept : {e : End} {bytes lent exit : List ℕ} {r : Taken} → TakePromise e bytes lent r exit → AreBytes bytes
     → wellMade base e ≡ true → Fits e → (wellMade base (r .end) ≡ true) × Fits (r .end)
-take-kept {bytes = bytes} {lent} p all = rw (p .answer) (kept (λ s. take-held base s (omega arith) bytes all (length lent)))
+take-kept {bytes = bytes} {lent} p all = rw (p .answer) (kept (λ s. take-held base s bytes all (length lent)))

@@ -9,4 +9,5 @@ pub mod Twelve
 pub mod Own
 pub mod Alike
 pub mod Bench
+pub mod Grants
 pub mod Worked

@@ -1,5 +1,5 @@
 -- The tests of the crates below are their plain words, both ways.
-use Prim.Native.Nat.{ℕ, _+_}
+use Prim.Native.Nat.{ℕ, _+_, _≤_}
 use native.Mathlib.Omega.{arith}
 use mathlib.Core.Path.{_≡_, refl, sym, ap, _∙_}
 use mathlib.Core.Bool.{Bool, true, false, not, _&&_}
@@ -17,20 +17,27 @@ use Rattle.session.specs.declared.record.State.{State}
 use Rattle.session.specs.declared.record.State.the-variants.{Closed, Established, FinSent, FinReceived}
 use Rattle.session.specs.declared.record.Session.{Session}
 use Rattle.session.specs.Counter.{minus, plus}
-use Rattle.session.specs.Record.{window, payloadLimit, established}
+use Rattle.session.specs.Record.{least, highest, payloadLimit, established}
 use Rattle.session.specs.Notice.{due}
-use Rattle.effect.specs.Taken.{windowInRange, seqnumInRange}
+use Rattle.effect.specs.Taken.{windowInRange, grantInRange, seqnumInRange}
 use Rattle.table.specs.declared.end.End.{End}
 use Rattle.table.specs.Slots.{holds, slotOf, lowestFree, full}
 use Rattle.table.proofs.Made.{slot-holds}
 use Rattle.table.proofs.SlotAt.{held-within, held-used, held-named}
 use Rattle.table.proofs.Lowest.{lowest-within, lowest-unused, full-used}
-use Rattle.laws.specs.Plain.{Held, Full, LengthRight, InWindow, Within, InSequence, Due}
+use Rattle.laws.specs.Plain.{Held, Full, LengthRight, InWindow, MayGrant, Within, InSequence, Due}
 
 -- a test true exactly where something holds
 pub record Tells (b : Bool) (P : Type 0) : Type 0 where
   pub to : b ≡ true → P
   pub back : P → b ≡ true
+
+-- two bounds
+both-at-most : (a b c d : ℕ) → Tells (leb a b && leb c d) ((a ≤ b) × (c ≤ d))
+both-at-most a b c d = record {
+  to = λ p. let s = and-split (leb a b) (leb c d) p in (leb-true a b (s .0), leb-true c d (s .1));
+  back = λ s. and-both (leb a b) (leb c d) (le-leb a b (s .0)) (le-leb c d (s .1));
+}
 
 -- ---- a session with that SID
 
@@ -55,12 +62,7 @@ right : (k : Kind) (n : ℕ) → Tells (lengthFits payloadLimit (One k) n) (Leng
 right Syn n = record { to = eqb-true n headerLength; back = eq-eqb n headerLength }
 right Ack n = record { to = eqb-true n headerLength; back = eq-eqb n headerLength }
 right Fin n = record { to = eqb-true n headerLength; back = eq-eqb n headerLength }
-right Data n = record {
-  to = λ p. let s = and-split (leb headerLength n) (leb n (headerLength + payloadLimit)) p in
-      (leb-true headerLength n (s .0), leb-true n (headerLength + payloadLimit) (s .1));
-  back = λ s. and-both (leb headerLength n) (leb n (headerLength + payloadLimit)) (le-leb headerLength n (s .0))
-      (le-leb n (headerLength + payloadLimit) (s .1));
-}
+right Data n = both-at-most headerLength n n (headerLength + payloadLimit)
 
 pub sized : (f n : ℕ) → Tells (lengthFits payloadLimit (flagsOf f) n) ((k : Kind) × (f ≡ flagsValue k) × LengthRight k n)
 sized f n = by (flagsOf f) refl
@@ -75,14 +77,14 @@ sized f n = by (flagsOf f) refl
       back = λ s. let q : flagsOf f ≡ One (s .0) = flags-named f (s .0) (s .1) in let z : _≡_ {A = ℕ} 0 1 = cc in absurd (omega arith);
     }
 
--- ---- the two ranges
+-- ---- the ranges
 
-pub windowed : (x : Session) (w : ℕ) → Tells (windowInRange window x w) (InWindow x w)
+pub windowed : (x : Session) (w : ℕ) → Tells (windowInRange highest x w) (InWindow x w)
 unfolding windowInRange
-windowed x w = record {
-  to = λ p. let s = and-split (leb (minus (x .h) (x .s)) (minus w (x .s))) (leb (minus w (x .s)) window) p in (leb-true _ _ (s .0), leb-true _ _ (s .1));
-  back = λ s. and-both (leb (minus (x .h) (x .s)) (minus w (x .s))) (leb (minus w (x .s)) window) (le-leb _ _ (s .0)) (le-leb _ _ (s .1));
-}
+windowed x w = both-at-most (minus (x .h) (x .s)) (minus w (x .s)) (minus w (x .s)) highest
+
+pub granted : (w : ℕ) → Tells (grantInRange highest w) (MayGrant w)
+granted w = both-at-most least w w highest
 
 within : (x : Session) (q : ℕ) → Tells (leb (minus q (x .r)) (minus (x .g) (x .r))) (Within x q)
 within x q = record { to = leb-true _ _; back = le-leb _ _ }

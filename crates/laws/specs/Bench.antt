@@ -1,4 +1,4 @@
--- The bench values of document 01, all fourteen as one list, on the definitions that the calls' promises cite:
+-- The bench values of document 01, with 9 as document 02, (ii), has it: all fourteen as one list, on the definitions that the calls' promises cite:
 -- 7 by a send on a stated end, all others by take on a stated end and stated bytes. "Passes" is answer 0.
 use Prim.Native.Nat.{ℕ}
 use mathlib.Core.Bool.{Bool, true, _&&_}
@@ -71,8 +71,8 @@ rows =
     ∷ next sending is 0
     -- (8) same, WNDW 3 passes
     ∷ gives sending (header 0x02 16 0 3) is 0
-    -- (9) WNDW 4 gives 28
-    ∷ gives sending (header 0x02 16 0 4) is 28
+    -- (9) WNDW 4 passes (document 02, (ii))
+    ∷ gives sending (header 0x02 16 0 4) is 0
     -- (10) WNDW 2 gives 28
     ∷ gives sending (header 0x02 16 0 2) is 28
     -- (11) R = 0xfffffffe, G = 2, ESTABLISHED: DATA SEQNUM 0xffffffff passes

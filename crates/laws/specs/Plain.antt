@@ -1,4 +1,5 @@
--- Document 01's tests in plain words: a session with a SID, no free slot, LENGTH right for a kind, WNDW and SEQNUM in range, an ACK due.
+-- Document 01's tests in plain words: a session with a SID, no free slot, LENGTH right for a kind, WNDW and SEQNUM in range, an ACK due. Document 02,
+-- (i) and (ii), has changed them.
 use Prim.Native.Nat.{ℕ, _+_, _≤_, _<_}
 use mathlib.Core.Path.{_≡_}
 use mathlib.Core.Bool.{true}
@@ -9,7 +10,7 @@ use Rattle.wire.specs.Packet.{headerLength}
 use Rattle.session.specs.declared.record.State.the-variants.{Established}
 use Rattle.session.specs.declared.record.Session.{Session}
 use Rattle.session.specs.Counter.{minus, plus}
-use Rattle.session.specs.Record.{window, payloadLimit, inUse, free}
+use Rattle.session.specs.Record.{least, highest, payloadLimit, inUse, free}
 use Rattle.table.specs.declared.end.End.{End}
 
 -- some slot in use has that SID
@@ -27,9 +28,13 @@ LengthRight Ack n = n ≡ headerLength
 LengthRight Fin n = n ≡ headerLength
 LengthRight Data n = (headerLength ≤ n) × (n ≤ headerLength + payloadLimit)
 
--- let a = H - S and b = WNDW - S; WNDW is in range when a <= b <= 4
+-- let a = H - S and b = WNDW - S; WNDW is in range when a <= b <= 2,147,483,647
 abbrev pub InWindow : Session → ℕ → Type 0
-InWindow x wndw = (minus (x .h) (x .s) ≤ minus wndw (x .s)) × (minus wndw (x .s) ≤ window)
+InWindow x wndw = (minus (x .h) (x .s) ≤ minus wndw (x .s)) × (minus wndw (x .s) ≤ highest)
+
+-- a SYN may grant 4 to 2,147,483,647
+abbrev pub MayGrant : ℕ → Type 0
+MayGrant wndw = (least ≤ wndw) × (wndw ≤ highest)
 
 -- SEQNUM is in range for DATA in ESTABLISHED when it is R + 1 and R differs from G; for all else when SEQNUM - R <= G - R
 abbrev pub Within : Session → ℕ → Type 0

@@ -13,7 +13,7 @@ use Rattle.wire.specs.declared.kind.Flags.the-variants.{One, Wrong}
 use Rattle.wire.specs.Packet.{headerLength, smidValue, flagsValue, flagsOf, readHeader}
 use Rattle.session.specs.declared.record.State.the-variants.{Established, FinSent, FinReceived}
 use Rattle.session.specs.declared.record.Session.{Session}
-use Rattle.session.specs.Record.{window, payloadLimit, unread}
+use Rattle.session.specs.Record.{payloadLimit, unread}
 use Rattle.table.specs.declared.end.Role.the-variants.{Client, Server}
 use Rattle.table.specs.declared.end.End.{End}
 use Rattle.table.specs.Slots.{sessionOf}
@@ -22,7 +22,7 @@ use Rattle.table.specs.Well.{WellMade}
 use Rattle.table.specs.Storage.{storageLength}
 use Rattle.read.specs.Read.{oldestLength}
 use Rattle.laws.specs.When.{When, when}
-use Rattle.laws.specs.Plain.{Held, Full, LengthRight, InWindow, InSequence, Due}
+use Rattle.laws.specs.Plain.{Held, Full, LengthRight, InWindow, MayGrant, InSequence, Due}
 
 -- 12, the lent record isn't well made; 1, the end is down
 abbrev pub isWell : End → When
@@ -98,7 +98,7 @@ synWhens e h =
     when 24 (e .role ≡ Client) (e .role ≡ Server)
     ∷ when 25 (Held (h .sid) e) (Held (h .sid) e → ⊥)
     ∷ when 26 (Full e) (Full e → ⊥)
-    ∷ when 27 ((h .seqnum ≡ 0) × (h .wndw ≡ window) → ⊥) ((h .seqnum ≡ 0) × (h .wndw ≡ window))
+    ∷ when 27 ((h .seqnum ≡ 0) × MayGrant (h .wndw) → ⊥) ((h .seqnum ≡ 0) × MayGrant (h .wndw))
     ∷ []
 
 -- for others 23, 30, 28, 29

@@ -26,7 +26,7 @@ use Rattle.pair.specs.Placed.{dataOf, onWay, unreadIn}
 use Rattle.pair.specs.Drained.{takes, reads, Drained}
 use Rattle.pair.proofs.Demand3 as any
 
-sizes : Sizes slotCount base
+pub sizes : Sizes slotCount base
 sizes = record { few = omega arith; fits = omega arith; wide = omega arith }
 
 module _ (storage : Side → List ℕ) (steps : List Step) where

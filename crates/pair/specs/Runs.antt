@@ -8,7 +8,7 @@ use lib.ListN.{replicate, take}
 use Rattle.cases.specs.Cases.{if, done}
 use Rattle.session.specs.declared.record.Session.{Session}
 use Rattle.session.specs.Counter.{minus}
-use Rattle.session.specs.Record.{window, statedOf}
+use Rattle.session.specs.Record.{highest, statedOf}
 use Rattle.table.specs.declared.end.Role.{Role}
 use Rattle.table.specs.declared.end.Role.the-variants.{Client, Server}
 use Rattle.table.specs.Slots.{heldCount}
@@ -49,9 +49,9 @@ takenIn (e ∷ h) = if (shape (e .step .call) .takes) (done (e .reply .number) (
 abbrev pub is : Side → Call → ℕ → Option ℕ → Line
 is k c n who = record { step = record { side = k; call = c }; number = n; whose = who }
 
--- our window, and places of that size
+-- the highest window, and places of that size
 abbrev pub sized : ℕ → Limits
-sized place = record { window = window; place = place }
+sized place = record { window = highest; place = place }
 
 -- two slots with places of four bytes, and storages of 32
 abbrev pub two : Scene

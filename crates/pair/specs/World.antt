@@ -1,5 +1,5 @@
 -- The pair in demand 3 (document 01): one client and one server, each started once at the beginning, joined by two faithful channels.
--- The number of slots and the limits are arguments; the base has 16 slots, places of 512 bytes and a highest window of 4.
+-- The number of slots and the limits are arguments; the calls' own are 16 slots, places of 512 bytes and a highest window of 2,147,483,647.
 use Prim.Native.Nat.{ℕ, _+_, _^_, _≤_, _<_}
 use mathlib.Core.List.{List, []}
 use Rattle.wire.specs.Packet.{headerLength}

@@ -43,7 +43,7 @@ pub fn scan(e: End, sid: u16) -> Look
     while 0 < i {
         i -= 1;
         let x = e.slots[i];
-        if !x.in_order(Session::WINDOW, Session::PAYLOAD) {
+        if !x.in_order(Session::HIGHEST, Session::PAYLOAD) {
             return nothing();
         }
         let st = x.state;

@@ -89,7 +89,7 @@ impl Session {
         x
     }
 
-    // The record after an ACK: H becomes WNDW, and all else stays.
+    // The record after an ACK, and a new one after its SYN: H becomes WNDW, and all else stays.
     pub fn granted(self, wndw: u32) -> Session
         ensures { λ r. ⌜ r ≡ grantedOn wndw self ⌝ }
     {

@@ -7,5 +7,6 @@ pub record Limits : Type 0 where
   pub window : ℕ
   pub place : ℕ
 
+-- those of the calls' promises
 abbrev pub base : Limits
-base = record { window = record'.window; place = record'.payloadLimit }
+base = record { window = record'.highest; place = record'.payloadLimit }

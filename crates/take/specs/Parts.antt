@@ -8,6 +8,7 @@ use Rattle.cases.specs.Cases.{if}
 use Rattle.wire.specs.declared.header.Header.{Header}
 use Rattle.wire.specs.Packet.{headerLength}
 use Rattle.session.specs.Record.{payloadLimit, free, freshOf}
+use Rattle.session.specs.Changes.{grantedOn}
 use Rattle.effect.specs.declared.cell.Cell.{Cell}
 use Rattle.effect.specs.Taken.{becomes}
 use Rattle.table.specs.declared.end.End.{End}
@@ -47,7 +48,7 @@ Bounded a h = (c : Cell) → a ≡ Do c → (headerLength ≤ h .length) × (h .
 
 abbrev pub changeOf : Act → Look → Header → Change
 changeOf (Stop n) l h = record { down = leb 20 n; slot = slotCount; session = free }
-changeOf Begin l h = record { down = false; slot = l .free; session = freshOf (h .sid) }
+changeOf Begin l h = record { down = false; slot = l .free; session = grantedOn (h .wndw) (freshOf (h .sid)) }
 changeOf (Do c) l h = record
     { down = false; slot = l .slot; session = becomes c (h .seqnum) (h .wndw) (h .length - headerLength) (l .session) }
 

@@ -15,6 +15,7 @@ use Rattle.wire.specs.declared.kind.Flags.the-variants.{One, Wrong}
 use Rattle.wire.specs.Packet.{headerLength, readHeader, flagsOf}
 use Rattle.session.specs.declared.record.Session.{Session}
 use Rattle.session.specs.Record.{freshOf}
+use Rattle.session.specs.Changes.{grantedOn}
 use Rattle.effect.specs.declared.cell.Cell.{Cell}
 use Rattle.effect.specs.declared.cell.Cell.the-variants as cell
 use Rattle.effect.specs.Taken.{cellOf, becomes}
@@ -28,12 +29,13 @@ use Rattle.take.specs.declared.Taken.{Taken}
 
 -- ---- the record
 
--- a SYN at a server makes a fresh ESTABLISHED session; for the rest the table says what becomes of it
+-- for all but SYN the table says what becomes of the session
 abbrev pub takenOn : Kind → Header → Session → Session
 takenOn k h x = becomes (cellOf (x .state) k) (h .seqnum) (h .wndw) (h .length - headerLength) x
 
+-- a SYN at a server makes a fresh ESTABLISHED session, whose H becomes WNDW
 abbrev pub takenEnd : Flags → Header → End → End
-takenEnd (One Syn) h e = putOf (lowestFree (e .slots)) (freshOf (h .sid)) e
+takenEnd (One Syn) h e = putOf (lowestFree (e .slots)) (grantedOn (h .wndw) (freshOf (h .sid))) e
 takenEnd (One Ack) h e = changedOf (h .sid) (takenOn Ack h) e
 takenEnd (One Fin) h e = changedOf (h .sid) (takenOn Fin h) e
 takenEnd (One Data) h e = changedOf (h .sid) (takenOn Data h) e

@@ -111,7 +111,7 @@ fn change(a: Act, l: Look, h: Header) -> Change
         Act::Begin => Change {
             down: false,
             slot: l.free,
-            session: Session::fresh(h.sid),
+            session: Session::fresh(h.sid).granted(h.wndw),
         },
         Act::Do(c) => {
             let x = l.session;

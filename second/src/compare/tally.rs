@@ -1,8 +1,11 @@
 //! How often each answer of each call was seen, and each case of `cases.rs`; and which of document
 //! 01's answers and of these cases never was.
 
-use super::cases::{Met, CASES};
+use super::cases::{Met, CASES, FEED_CASES};
 use crate::calls::Calls;
+use crate::feed::INPUT;
+use crate::make::pieces;
+use crate::packet::{unhex, Header, HEADER};
 use std::collections::BTreeMap;
 
 /// Every answer that document 01 lists for a call, and those that `feed` can show: its server is
@@ -35,6 +38,16 @@ const OTHER_LINES: [&str; 5] = ["lend", "record", "end", "show", "peek"];
 /// Under this word, which is no call, stand the cases.
 const CASE: &str = "case";
 
+/// The names of all cases.
+fn cases() -> impl Iterator<Item = &'static str> {
+    CASES.iter().map(|(name, _)| *name).chain(FEED_CASES.iter().map(|(name, _)| *name))
+}
+
+/// The header that a word or a line of digits begins with.
+fn header_of(digits: &[u8]) -> Option<Header> {
+    Header::read(&unhex(digits.get(..2 * HEADER)?)?)
+}
+
 #[derive(Default)]
 pub struct Tally {
     seen: BTreeMap<(String, String), usize>,
@@ -53,13 +66,21 @@ impl Tally {
             let line = line.strip_suffix(b"\n").unwrap_or(line);
             let text = String::from_utf8_lossy(line);
             let words: Vec<&str> = text.split(' ').collect();
-            let named = words.get(1).and_then(|word| word.parse().ok());
+            let header = match words[..] {
+                ["take", bytes] => header_of(bytes.as_bytes()),
+                _ => None,
+            };
+            let named = match header {
+                Some(header) => Some(header.sid),
+                None => words.get(1).and_then(|word| word.parse().ok()),
+            };
             let slot =
                 named.and_then(|sid| calls.end.find(sid)).map(|i| calls.end.slots[i].clone());
             let answer = calls.answer(line);
             let answer = answer.split(' ').collect();
             self.lines += 1;
-            self.add_line(&Met { words, answer, slot: slot.unwrap_or_default(), end: &calls.end });
+            let slot = slot.unwrap_or_default();
+            self.add_line(&Met { words, answer, header, slot, end: &calls.end });
         }
     }
 
@@ -86,11 +107,20 @@ impl Tally {
         }
     }
 
-    /// Counts the answers in a report of `feed`.
-    pub fn add_feed(&mut self, report: &[u8]) {
+    /// Counts the answers in a report of `feed` on a capture, and the cases met.
+    pub fn add_feed(&mut self, capture: &[u8], report: &[u8]) {
         let report = String::from_utf8_lossy(report);
-        for line in report.lines().filter(|line| !line.starts_with("end")) {
-            self.add("feed", line.split(' ').nth(1).unwrap_or(""));
+        let told = report.lines().filter(|line| !line.starts_with("end"));
+        let read = &capture[..capture.len().min(INPUT)];
+        for (frame, line) in pieces(read).iter().zip(told) {
+            let answer = line.split(' ').nth(1).unwrap_or("");
+            self.add("feed", answer);
+            let Some(header) = header_of(frame.strip_suffix(b"\n").unwrap_or(frame)) else {
+                continue;
+            };
+            for (name, _) in FEED_CASES.iter().filter(|(_, is)| is(&header, answer)) {
+                self.add(CASE, name);
+            }
         }
     }
 
@@ -106,8 +136,7 @@ impl Tally {
                 never.push(format!("{call} {answer}"));
             }
         }
-        let cases = CASES.iter().map(|(name, _)| *name);
-        never.extend(cases.filter(|name| self.count(CASE, name) == 0).map(str::to_string));
+        never.extend(cases().filter(|name| self.count(CASE, name) == 0).map(str::to_string));
         never
     }
 
@@ -144,7 +173,7 @@ impl Tally {
         }
         text.pop();
         text += ".\n\nCases:";
-        for (name, _) in CASES {
+        for name in cases() {
             text += &format!(" {name}, {};", self.count(CASE, name));
         }
         text.pop();

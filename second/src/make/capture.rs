@@ -8,8 +8,9 @@ use crate::packet::{hex, ACK, DATA, FIN};
 use crate::random::Random;
 use crate::record::{End, ESTABLISHED, FIN_RECEIVED, SLOTS};
 
-/// The faults that a server whose owner does nothing can meet.
-const FAULTS: [u32; 10] = [20, 21, 22, 23, 25, 26, 27, 28, 29, 30];
+/// The faults that a server whose owner does nothing can meet. Those of a peer that grants too much
+/// or too little come twice, since they have more edges.
+const FAULTS: [u32; 12] = [20, 21, 22, 23, 25, 26, 27, 27, 28, 28, 29, 30];
 const LONGEST_FRAME: usize = 528;
 
 struct Made {
@@ -99,7 +100,8 @@ impl Made {
             0..=3 if open.is_empty() || which == 0 => {
                 if used < SLOTS {
                     let sid = unknown_sid(&mut self.dice, &self.server);
-                    self.packet(syn(sid));
+                    let bytes = syn(&mut self.dice, sid);
+                    self.packet(bytes);
                 }
             }
             _ => {
@@ -143,7 +145,8 @@ impl Made {
                 self.packet(bytes);
             } else {
                 let sid = unknown_sid(&mut self.dice, &self.server);
-                self.packet(syn(sid));
+                let bytes = syn(&mut self.dice, sid);
+                self.packet(bytes);
             }
         }
         if !allowed(&self.server, fault) {
@@ -176,7 +179,7 @@ impl Made {
     fn bad(&mut self) {
         let open = slots_in(&self.server, &[ESTABLISHED, FIN_RECEIVED]);
         let mut line = match open.is_empty() {
-            true => hex(&syn(0)),
+            true => hex(&syn(&mut self.dice, 0)),
             false => {
                 let slot = self.server.slots[self.dice.pick(&open)].clone();
                 hex(&right(&mut self.dice, &slot, ACK))

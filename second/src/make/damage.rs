@@ -1,9 +1,11 @@
 //! Packets that are a given fault at a given end, one for every number from 20 to 30.
 
-use super::fields::{right, right_seqnum, sid, slots_in, syn, unknown_sid, used_slots};
+use super::fields::{
+    grant, right, right_seqnum, sid, slots_in, syn, unknown_sid, used_slots, wrong_grant,
+};
 use crate::packet::{packet, ACK, DATA, FIN, HEADER};
 use crate::random::Random;
-use crate::record::{End, ESTABLISHED, FIN_RECEIVED, FIN_SENT, SLOTS};
+use crate::record::{End, ESTABLISHED, FIN_RECEIVED, FIN_SENT, HIGHEST_GRANT, SLOTS};
 
 /// Whether the end's record allows the fault.
 pub fn allowed(end: &End, fault: u32) -> bool {
@@ -39,22 +41,25 @@ pub fn faulty(dice: &mut Random, end: &End, fault: u32) -> Vec<u8> {
         22 => wrong_length(dice, end),
         23 => packet(flags, unknown_sid(dice, end), counter_like(dice), counter_like(dice), &[]),
         24 | 26 => match dice.chance(70) {
-            true => syn(unknown_sid(dice, end)),
+            true => {
+                let sid = unknown_sid(dice, end);
+                syn(dice, sid)
+            }
             // Other things wrong with it come later.
             false => packet(1, unknown_sid(dice, end), counter_like(dice), counter_like(dice), &[]),
         },
         25 => {
             let used = used_slots(end);
-            syn(end.slots[dice.pick(&used)].sid)
+            let sid = end.slots[dice.pick(&used)].sid;
+            syn(dice, sid)
         }
         27 => {
             let sid = unknown_sid(dice, end);
             let small = dice.pick(&[1, 4, 0x100, 0x0100_0000, 0xffff_ffff]);
-            let window = dice.pick(&[0, 3, 5, 0x0104, 0x0004_0000, 0x0400_0000, 0xffff_ffff]);
-            match dice.below(3) {
-                0 => packet(1, sid, small, 4, &[]),
-                1 => packet(1, sid, 0, window, &[]),
-                _ => packet(1, sid, small, window, &[]),
+            match dice.weighted(&[3, 1, 5]) {
+                0 => packet(1, sid, small, grant(dice), &[]),
+                1 => packet(1, sid, small, wrong_grant(dice), &[]),
+                _ => packet(1, sid, 0, wrong_grant(dice), &[]),
             }
         }
         28 => wrong_wndw(dice, end, flags),
@@ -74,14 +79,15 @@ pub fn faulty(dice: &mut Random, end: &End, fault: u32) -> Vec<u8> {
 }
 
 fn counter_like(dice: &mut Random) -> u32 {
-    dice.pick(&[0, 1, 2, 3, 4, 5, 6, 0x8000_0000, 0xffff_fffe, 0xffff_ffff])
+    dice.pick(&[0, 1, 2, 3, 4, 5, 6, 32, 0x7fff_ffff, 0x8000_0000, 0xffff_fffe, 0xffff_ffff])
 }
 
 /// A packet right for some session, or a SYN where there is none.
 fn any_right(dice: &mut Random, end: &End) -> Vec<u8> {
     let open = slots_in(end, &[ESTABLISHED, FIN_SENT]);
     if open.is_empty() {
-        return syn(sid(dice));
+        let sid = sid(dice);
+        return syn(dice, sid);
     }
     let flags = dice.pick(&[ACK, FIN, DATA]);
     let slot = end.slots[dice.pick(&open)].clone();
@@ -108,15 +114,18 @@ fn wrong_length(dice: &mut Random, end: &End) -> Vec<u8> {
 fn wrong_wndw(dice: &mut Random, end: &End, flags: u8) -> Vec<u8> {
     let open = slots_in(end, &[ESTABLISHED, FIN_SENT]);
     let slot = end.slots[dice.pick(&open)].clone();
-    let far = dice.next() as u32;
+    let far = dice.next() as u32 | 0x8000_0000;
+    // The nearest on both sides come twice.
     let wrong = [
         slot.h.wrapping_sub(1),
+        slot.h.wrapping_sub(1),
         slot.h.wrapping_sub(2),
-        slot.s.wrapping_add(5),
-        slot.s.wrapping_add(6),
+        slot.s.wrapping_add(HIGHEST_GRANT + 1),
+        slot.s.wrapping_add(HIGHEST_GRANT + 1),
+        slot.s.wrapping_add(HIGHEST_GRANT + 2),
         slot.s.wrapping_sub(1),
         slot.h.wrapping_add(0x8000_0000),
-        far,
+        slot.s.wrapping_add(far),
     ];
     let wndw = dice.pick(&wrong);
     let seqnum = match dice.chance(80) {

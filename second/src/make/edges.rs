@@ -1,5 +1,5 @@
 //! A few fixed inputs that random ones would seldom be: empty ones, last lines without LF,
-//! lines before the first `start`.
+//! lines before the first `start`, the edges of what a peer may grant.
 
 use crate::calls::LONGEST_LINE;
 use crate::feed::INPUT;
@@ -79,6 +79,73 @@ show
 shutdown
 ";
 
+/// Records, SYNs and WNDWs at the edges of what a peer may grant, and one past them.
+const GRANTS: &str = "\
+start server
+record 0 1 5 4294967295 3 0 4 4 0 0 0 0
+take 53020500100000000000000004000000
+show
+take 530205001000000000000000feffff7f
+show
+send 5 - 16
+show
+take 530205001000000000000000ffffff7f
+show
+take 530205001000000000000000feffff7f
+show
+start server
+record 0 1 5 4294967295 2147483646 0 4 4 0 0 0 0
+take 530205001000000000000000ffffff7f
+show
+start server
+take 530105001000000000000000ffffff7f
+take 530106001000000000000000feffff7f
+take 53010700100000000000000020000000
+take 53010800100000000000000005000000
+take 53010900100000000000000004000000
+show
+take 530206001000000000000000ffffff7f
+take 53020600100000000000000000000080
+show
+start server
+take 53010500100000000000000003000000
+start server
+take 53010500100000000000000000000080
+start server
+take 530105001000000000000000ffffffff
+start server
+take 53010500100000000100000020000000
+start client
+open 16
+take 530200001000000000000000ffffff7f
+show
+record 0 1 0 0 2147483648 0 4 4 0 0 0 0
+send 0 - 16
+record 0 1 0 4294967295 2147483647 0 4 4 0 0 0 0
+send 0 - 16
+record 0 1 0 4294967295 2147483646 0 4 4 0 0 0 0
+send 0 - 16
+record 0 1 0 0 4 0 5 5 0 0 0 0
+send 0 - 16
+record 0 1 0 0 2147483647 0 5 5 0 0 0 0
+send 0 - 16
+show
+";
+
+/// Captures of peers that grant 32, as much as they may, and more; the last frame of each is a
+/// fault.
+const GRANTED: [&str; 6] = [
+    "53010500100000000000000020000000\n53080500120000000100000020000000abcd\n\
+     53020500100000000100000021000000\n53020500100000000100000020000000\n",
+    "530105001000000000000000ffffff7f\n530205001000000000000000ffffff7f\n\
+     53020500100000000000000000000080\n",
+    "530105001000000000000000feffff7f\n530205001000000000000000ffffff7f\n\
+     530205001000000000000000feffff7f\n",
+    "53010500100000000000000000000080\n",
+    "530105001000000000000000ffffffff\n",
+    "53010500100000000000000003000000\n",
+];
+
 pub fn calls() -> Vec<Vec<u8>> {
     let line = |size: usize| [b"take ".as_slice(), &vec![b'0'; size - 5]].concat();
     let joined = |lines: &[&[u8]]| lines.join(&b'\n');
@@ -92,6 +159,7 @@ pub fn calls() -> Vec<Vec<u8>> {
         b"show\r\nshow\r".to_vec(),
         CONVERSATION.as_bytes().to_vec(),
         AROUND_THE_WRAP.as_bytes().to_vec(),
+        GRANTS.as_bytes().to_vec(),
         b"end server 1\nopen 16\nopen 0\nend client 1\nopen 15\nopen 16\nshow\nlend 0\nclose 0 16"
             .to_vec(),
         joined(&[b"start server", &line(LONGEST_LINE - 1), b"show"]),
@@ -103,7 +171,7 @@ pub fn calls() -> Vec<Vec<u8>> {
 
 pub fn feed() -> Vec<Vec<u8>> {
     let listing = LISTING.as_bytes();
-    vec![
+    let mut inputs = vec![
         b"".to_vec(),
         b"\n".to_vec(),
         b"\n\n".to_vec(),
@@ -118,5 +186,7 @@ pub fn feed() -> Vec<Vec<u8>> {
         vec![b'\n'; INPUT + 1],
         vec![b'0'; INPUT],
         [vec![b'\n'; INPUT - 1], b"00".to_vec()].concat(),
-    ]
+    ];
+    inputs.extend(GRANTED.map(|capture| capture.as_bytes().to_vec()));
+    inputs
 }

@@ -12,7 +12,8 @@ pub fn faults(talk: &mut Talk) {
         let steps = 10 + talk.dice.below(50);
         let weights = talk.dice.pick(&[EVEN, NOBODY_READS, MUCH_CLOSING]);
         traffic(talk, steps, &weights);
-        let number = 20 + talk.dice.below(11) as u32;
+        // What a peer may grant has more edges than the rest.
+        let number = talk.dice.pick(&[20, 21, 22, 23, 24, 25, 26, 27, 27, 28, 28, 29, 30]);
         fault(talk, number);
         while_down(talk);
         start_again(talk);

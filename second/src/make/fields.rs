@@ -1,9 +1,9 @@
 //! Random values for lines and packets: payloads, records, and packets that an end accepts
-//! or nearly accepts. The values lie at or beside the bounds that document 01 sets.
+//! or nearly accepts. The values lie at or beside the bounds that documents 01 and 02 set.
 
 use crate::packet::{packet, Header, ACK, DATA, FIN, HEADER, PAYLOAD, SMID, SYN};
 use crate::random::Random;
-use crate::record::{End, Slot, ESTABLISHED, FREE, SLOTS};
+use crate::record::{End, Slot, ESTABLISHED, FREE, HIGHEST_GRANT, LOWEST_GRANT, SLOTS, WINDOW};
 
 pub fn payload(dice: &mut Random) -> Vec<u8> {
     let count = match dice.weighted(&[12, 66, 12, 4, 6]) {
@@ -50,6 +50,47 @@ pub fn unknown_sid(dice: &mut Random, end: &End) -> u16 {
     }
 }
 
+/// A window that a SYN may grant, mostly four.
+pub fn grant(dice: &mut Random) -> u32 {
+    match dice.weighted(&[60, 22, 12, 6]) {
+        0 => LOWEST_GRANT,
+        1 => dice.pick(&[5, 6, 8, 31, 32, 33]),
+        2 => HIGHEST_GRANT - dice.below(3) as u32,
+        _ => (dice.next() as u32 >> 1).max(LOWEST_GRANT),
+    }
+}
+
+/// A window that no SYN may grant.
+pub fn wrong_grant(dice: &mut Random) -> u32 {
+    match dice.weighted(&[30, 10, 30, 15, 15]) {
+        0 => LOWEST_GRANT - 1,
+        1 => dice.below(LOWEST_GRANT as usize) as u32,
+        2 => HIGHEST_GRANT + 1,
+        3 => dice.pick(&[0x8000_0001, 0x8000_0004, 0x8000_0020, 0xffff_fffc, 0xffff_ffff]),
+        _ => dice.next() as u32 | 0x8000_0000,
+    }
+}
+
+/// A difference H - S that a well-made record may have.
+fn window(dice: &mut Random) -> u32 {
+    match dice.weighted(&[55, 15, 18, 12]) {
+        0 => dice.below(5) as u32,
+        1 => dice.pick(&[5, 6, 31, 32, 33]),
+        2 => HIGHEST_GRANT - dice.below(3) as u32,
+        _ => dice.next() as u32 >> (1 + dice.below(31)),
+    }
+}
+
+/// A difference H - S that no well-made record has.
+pub fn too_wide(dice: &mut Random) -> u32 {
+    match dice.weighted(&[50, 20, 20, 10]) {
+        0 => HIGHEST_GRANT + 1,
+        1 => HIGHEST_GRANT + 2,
+        2 => 0xffff_ffff,
+        _ => dice.next() as u32 | 0x8000_0000,
+    }
+}
+
 /// A slot in use that is well made on its own.
 pub fn slot(dice: &mut Random, state: u8, sid: u16) -> Slot {
     let (s, r) = (counter(dice), counter(dice));
@@ -61,7 +102,7 @@ pub fn slot(dice: &mut Random, state: u8, sid: u16) -> Slot {
             _ => dice.below(PAYLOAD + 1) as u16,
         };
     }
-    let (h, g) = (s.wrapping_add(dice.below(5) as u32), r.wrapping_add(dice.below(5) as u32));
+    let (h, g) = (s.wrapping_add(window(dice)), r.wrapping_add(dice.below(5) as u32));
     let l = g.wrapping_sub(dice.below(2) as u32);
     Slot { state, sid, s, h, r, g, l, lengths }
 }
@@ -85,10 +126,16 @@ pub fn slots_in(end: &End, states: &[u8]) -> Vec<usize> {
     (0..SLOTS).filter(|&i| states.contains(&end.slots[i].state)).collect()
 }
 
-/// A WNDW in range.
+/// A WNDW in range: mostly H or a little past it, at times as high as it may be.
 pub fn right_wndw(dice: &mut Random, slot: &Slot) -> u32 {
-    let room = 4u32.saturating_sub(slot.h.wrapping_sub(slot.s));
-    slot.h.wrapping_add(dice.below(room as usize + 1) as u32)
+    let room = HIGHEST_GRANT.saturating_sub(slot.window());
+    let more = match dice.weighted(&[50, 34, 8, 8]) {
+        0 => 0,
+        1 => dice.below(6) as u32,
+        2 => room.saturating_sub(dice.below(2) as u32),
+        _ => dice.next() as u32 >> (1 + dice.below(31)),
+    };
+    slot.h.wrapping_add(more.min(room))
 }
 
 /// A SEQNUM in range, if the window isn't closed.
@@ -107,8 +154,9 @@ pub fn right(dice: &mut Random, slot: &Slot, flags: u8) -> Vec<u8> {
     packet(flags, slot.sid, seqnum, wndw, &payload)
 }
 
-pub fn syn(sid: u16) -> Vec<u8> {
-    packet(SYN, sid, 0, 4, &[])
+/// A SYN that is right in all but perhaps its SID.
+pub fn syn(dice: &mut Random, sid: u16) -> Vec<u8> {
+    packet(SYN, sid, 0, grant(dice), &[])
 }
 
 fn near_seqnum(dice: &mut Random, slot: &Slot) -> u32 {
@@ -120,7 +168,8 @@ fn near_seqnum(dice: &mut Random, slot: &Slot) -> u32 {
 }
 
 fn near_wndw(dice: &mut Random, slot: &Slot) -> u32 {
-    let from = dice.pick(&[slot.s, slot.h, slot.s.wrapping_add(4)]);
+    let highest = slot.s.wrapping_add(HIGHEST_GRANT);
+    let from = dice.pick(&[slot.s, slot.s.wrapping_add(WINDOW), slot.h, slot.h, highest, highest]);
     match dice.chance(90) {
         true => from.wrapping_sub(2).wrapping_add(dice.below(5) as u32),
         false => dice.next() as u32,
@@ -154,8 +203,8 @@ pub fn near(dice: &mut Random, end: &End) -> Vec<u8> {
     };
     let right = dice.below(100);
     let wndw = match (flags, right) {
-        (SYN, 0..=89) => 4,
-        (SYN, _) => dice.pick(&[0, 3, 5, 0x0104, 0x0400_0000]),
+        (SYN, 0..=84) => grant(dice),
+        (SYN, _) => wrong_grant(dice),
         (_, 0..=74) => right_wndw(dice, &slot),
         _ => near_wndw(dice, &slot),
     };

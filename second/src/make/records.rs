@@ -5,7 +5,7 @@ use super::fields::{self, slots_in, unknown_sid, used_slots};
 use super::talk::Talk;
 use super::traffic::{call, odd_call, start_again, traffic, EVEN};
 use crate::random::Random;
-use crate::record::{Slot, ESTABLISHED, FIN_RECEIVED, FIN_SENT, FREE, SLOTS};
+use crate::record::{Slot, ESTABLISHED, FIN_RECEIVED, FIN_SENT, FREE, HIGHEST_GRANT, SLOTS};
 
 /// Any well-made record, then calls and packets at the bounds of its counters.
 pub fn any_records(talk: &mut Talk) {
@@ -101,11 +101,11 @@ fn break_a_clause(talk: &mut Talk) {
         }
     };
     slot.state = talk.dice.pick(&[ESTABLISHED, FIN_SENT, FIN_RECEIVED]);
-    let too_far = talk.dice.pick(&[5, 6, 0x8000_0000, 0xffff_ffff]);
-    match talk.dice.weighted(&[10, 10, 10, 12, 25, 10, 15]) {
-        0 => slot.h = slot.s.wrapping_add(too_far),
+    let too_far = talk.dice.pick(&[5, 5, 6, 32, HIGHEST_GRANT, 0x8000_0000, 0xffff_ffff]);
+    match talk.dice.weighted(&[14, 10, 10, 12, 25, 10, 15]) {
+        0 => slot.h = slot.s.wrapping_add(fields::too_wide(&mut talk.dice)),
         1 => {
-            // L goes along, so that only G is wrong.
+            // L goes along, so that only G is wrong. Our own window stays 4.
             let untold = slot.untold();
             slot.g = slot.r.wrapping_add(too_far);
             slot.l = slot.g.wrapping_sub(untold);
@@ -128,7 +128,7 @@ fn break_a_clause(talk: &mut Talk) {
                 talk.record(j, &stray);
                 return;
             }
-            slot.h = slot.s.wrapping_add(5);
+            slot.h = slot.s.wrapping_add(HIGHEST_GRANT + 1);
         }
         5 => {
             let role = if talk.ours.end.server { "server" } else { "client" };

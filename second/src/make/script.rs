@@ -3,6 +3,7 @@
 
 use super::bad::{bad_line, edge_line, spoiled};
 use super::faults::{fault, faults};
+use super::grants::grants;
 use super::records::{any_records, ill_made};
 use super::talk::Talk;
 use super::traffic::{
@@ -17,14 +18,15 @@ pub fn script(dice: Random) -> Vec<Vec<u8>> {
     let server = talk.dice.chance(50);
     talk.start(server);
     talk.say("lend 32768");
-    match talk.dice.weighted(&[24, 14, 5, 24, 16, 9, 8]) {
+    match talk.dice.weighted(&[23, 14, 5, 23, 16, 9, 8, 8]) {
         0 => plain(&mut talk),
         1 => across_the_wrap(&mut talk),
         2 => sixteen_and_one(&mut talk),
         3 => any_records(&mut talk),
         4 => faults(&mut talk),
         5 => ill_made(&mut talk),
-        _ => bad_lines(&mut talk),
+        6 => bad_lines(&mut talk),
+        _ => grants(&mut talk),
     }
     talk.finish()
 }

@@ -2,12 +2,11 @@
 //! simulated beside it, and a channel each way. So `take` gets what a peer would really send.
 
 use super::fields;
+use super::peer::Peer;
 use crate::calls::Calls;
 use crate::packet::{hex, unhex, Header, HEADER, PAYLOAD};
 use crate::random::Random;
-use crate::record::{
-    End, Slot, ESTABLISHED, FIN_RECEIVED, FIN_SENT, PLACES, SLOTS, STORAGE, WINDOW,
-};
+use crate::record::{Slot, ESTABLISHED, FIN_RECEIVED, FIN_SENT, PLACES, SLOTS, STORAGE, WINDOW};
 
 /// The most bytes for one `take`, so that its line isn't too long.
 const LARGEST_TAKE: usize = 8_000;
@@ -15,7 +14,7 @@ const LARGEST_TAKE: usize = 8_000;
 pub struct Talk {
     pub dice: Random,
     pub ours: Calls,
-    pub peer: End,
+    peer: Peer,
     pub lines: Vec<Vec<u8>>,
     to_peer: Vec<u8>,
     to_ours: Vec<u8>,
@@ -28,7 +27,7 @@ impl Talk {
         Talk {
             dice,
             ours: Calls::new(),
-            peer: End::new(),
+            peer: Peer::new(),
             lines: Vec::new(),
             to_peer: Vec::new(),
             to_ours: Vec::new(),
@@ -186,51 +185,36 @@ impl Talk {
     }
 
     fn peer_sid(&mut self) -> Option<u16> {
-        let used = fields::used_slots(&self.peer);
+        let used = fields::used_slots(&self.peer.end);
         if used.is_empty() {
             return None;
         }
-        Some(self.peer.slots[self.dice.pick(&used)].sid)
+        Some(self.peer.end.slots[self.dice.pick(&used)].sid)
     }
 
     pub fn peer_open(&mut self) {
-        let mut room = [0; HEADER];
-        let answer = self.peer.open(&mut room);
-        self.to_ours.extend(&room[..answer.front]);
+        self.to_ours.extend(self.peer.open(&mut self.dice));
     }
 
     pub fn peer_send(&mut self) {
         let Some(sid) = self.peer_sid() else { return };
-        let payload = fields::payload(&mut self.dice);
-        let mut room = [0; HEADER + PAYLOAD];
-        let answer = self.peer.send(sid, &payload, &mut room);
-        self.to_ours.extend(&room[..answer.front]);
+        self.to_ours.extend(self.peer.send(&mut self.dice, sid));
     }
 
     pub fn peer_read(&mut self) {
         let Some(sid) = self.peer_sid() else { return };
-        let mut room = [0; HEADER];
-        let answer = self.peer.read(sid, &mut [0; PAYLOAD], &mut room);
-        self.to_ours.extend(&room[..answer.ack]);
+        self.to_ours.extend(self.peer.read(&mut self.dice, sid));
     }
 
     pub fn peer_close(&mut self) {
         let Some(sid) = self.peer_sid() else { return };
-        let mut room = [0; HEADER];
-        let answer = self.peer.close(sid, &mut room);
-        self.to_ours.extend(&room[..answer.front]);
+        self.to_ours.extend(self.peer.close(&mut self.dice, sid));
     }
 
-    /// The peer takes all that is on its channel. It may go down after a script has forced
-    /// records on our end; then it stays silent.
+    /// The peer takes all that is on its channel.
     pub fn peer_take(&mut self) {
-        while !self.to_peer.is_empty() {
-            let answer = self.peer.take(&self.to_peer);
-            match answer.number {
-                0 => self.to_peer.drain(..answer.used),
-                _ => self.to_peer.drain(..),
-            };
-        }
+        let bytes = std::mem::take(&mut self.to_peer);
+        self.peer.take_all(&mut self.dice, bytes);
     }
 
     /// Looks at a place of a slot in use, or anywhere.
@@ -253,15 +237,17 @@ impl Talk {
 
     /// Sets our slot `i` and the peer's slot `i` so that they fit together, with nothing on the
     /// channels: what one has sent the other has received, what one was last told the other has as
-    /// its L. Each may have read one payload since.
+    /// its L. Each may have read one payload since. The peer's WNDW may go far beyond its own
+    /// window.
     pub fn matching_records(&mut self, i: usize, sid: u16) {
         let mut ours = fields::slot(&mut self.dice, ESTABLISHED, sid);
         let mut peer = fields::slot(&mut self.dice, ESTABLISHED, sid);
         if self.dice.chance(70) {
-            let window = ours.h.wrapping_sub(ours.s);
             ours.s = 0u32.wrapping_sub(self.dice.below(6) as u32);
-            ours.h = ours.s.wrapping_add(window);
         }
+        let beyond = fields::grant(&mut self.dice) - WINDOW;
+        let window = self.dice.below(5) as u32;
+        ours.h = ours.s.wrapping_add(window + beyond);
         if self.dice.chance(70) {
             let window = ours.g.wrapping_sub(ours.r);
             ours.r = 0u32.wrapping_sub(self.dice.below(6) as u32);
@@ -273,8 +259,8 @@ impl Talk {
             false => ours.g.wrapping_sub(self.dice.below(2) as u32),
         };
         (peer.s, peer.h) = (ours.r, ours.l);
-        (peer.r, peer.l) = (ours.s, ours.h);
-        peer.g = match ours.h.wrapping_sub(ours.s) == WINDOW {
+        (peer.r, peer.l) = (ours.s, ours.s.wrapping_add(window));
+        peer.g = match window == WINDOW {
             true => peer.l,
             false => peer.l.wrapping_add(self.dice.below(2) as u32),
         };
@@ -285,7 +271,8 @@ impl Talk {
             _ => {}
         }
         self.record(i, &ours);
-        self.peer.slots[i] = peer;
+        self.peer.end.slots[i] = peer;
+        self.peer.set_beyond(sid, beyond);
     }
 
     pub fn record(&mut self, i: usize, slot: &Slot) {

@@ -16,7 +16,6 @@ use Rattle.wire.specs.declared.kind.Flags.the-variants.{One}
 use Rattle.wire.specs.Packet.{headerLength, headerOf, headerBytes, packetBytes, lengthFits, flagsValue}
 use Rattle.wire.proofs.Headers.{header-length, packet-length}
 use Rattle.wire.proofs.Whole.{Whole, header-whole}
-use Rattle.session.specs.Record.{window}
 use Rattle.open.specs.Open.{synHeader}
 use Rattle.pair.proofs.Lane.Half.{Bytes, Packet, dat, ack, fin, seqnumOf, wndwOf}
 
@@ -81,4 +80,4 @@ module _ (place : ℕ) (small : headerLength + place < 2 ^ 32) (sid : ℕ) (low 
       fits (fin q v) l = refl
 
   pub syn-whole : Whole place (synHeader sid) Syn []
-  syn-whole = header-whole place small Syn sid [] 0 window low (omega arith) (omega arith) (omega arith) refl
+  syn-whole = header-whole place small Syn sid [] 0 (synHeader sid .wndw) low (omega arith) (omega arith) (omega arith) refl

@@ -4,12 +4,13 @@ use mathlib.Core.Path.{_≡_, refl, ap, _∙_}
 use mathlib.Core.Bool.{Bool, true, false, not}
 use mathlib.Core.List.{List, [], _∷_, _++_}
 use lib.ListN.{length, take, getD}
+use borrow.Author.Tests.{le-leb}
 use Rattle.cases.specs.Cases.{Case, _⇒_, if, first}
 use Rattle.wire.specs.declared.header.Header.{Header}
 use Rattle.wire.specs.declared.kind.Kind.{Kind}
 use Rattle.wire.specs.Packet.{headerLength}
 use Rattle.session.specs.declared.record.Session.{Session}
-use Rattle.session.specs.Record.{free, freshOf, finReceived}
+use Rattle.session.specs.Record.{window, free, freshOf, finReceived}
 use Rattle.effect.specs.Taken.{windowInRange, seqnumInRange, cellOf}
 use Rattle.table.specs.declared.end.Role.{Role}
 use Rattle.table.specs.declared.end.Role.the-variants.{Server}
@@ -66,20 +67,20 @@ module _ (lim : Limits) (small : headerLength + lim .place < 2 ^ 32) (e : End) (
           ∙ ap (λ (j : ℕ). kept lim (cellOf (getD (e .slots) i free .state) (kindOf p)) j (headerFor sid p) (packetFor sid p) lent) (at-slot a)
 
 -- a SYN at a server with a free slot, under a SID that isn't in the table: what ends emit never meets 27
-syn-clear : (sid : ℕ) → first (synCases Server false false (synHeader sid)) ≡ 0
+syn-clear : (lim : Limits) → window ≤ lim .window → (sid : ℕ) → first (synCases lim Server false false (synHeader sid)) ≡ 0
 unfolding first
-syn-clear sid = refl
+syn-clear lim wide sid = rw (le-leb window (lim .window) wide)
 
 module _ (lim : Limits) (small : headerLength + lim .place < 2 ^ 32) (e : End) (g : wellMade lim e ≡ true) (u : e .up ≡ true) (sid : ℕ) (low : sid < 2 ^ 16)
-    (rest : List ℕ) (n : ℕ) (l : length (synFor sid) ≤ n) (server : e .role ≡ Server) (new : holds sid (e .slots) ≡ false)
+    (rest : List ℕ) (n : ℕ) (l : length (synFor sid) ≤ n) (wide : window ≤ lim .window) (server : e .role ≡ Server) (new : holds sid (e .slots) ≡ false)
     (room : full (e .slots) ≡ false) where
   begun-number : (st : ℕ) → takeNumber lim e (take n (synFor sid ++ rest)) st ≡ if (shortStorage lim e st) 9 0
   begun-number st =
       syn-number lim small e g u sid low rest n l st
-      ∙ ap (λ (ρ : Role). if (shortStorage lim e st) 9 (first (synCases ρ (holds sid (e .slots)) (full (e .slots)) (synHeader sid)))) server
-      ∙ ap (λ (b : Bool). if (shortStorage lim e st) 9 (first (synCases Server b (full (e .slots)) (synHeader sid)))) new
-      ∙ ap (λ (b : Bool). if (shortStorage lim e st) 9 (first (synCases Server false b (synHeader sid)))) room
-      ∙ ap (λ (m : ℕ). if (shortStorage lim e st) 9 m) (syn-clear sid)
+      ∙ ap (λ (ρ : Role). if (shortStorage lim e st) 9 (first (synCases lim ρ (holds sid (e .slots)) (full (e .slots)) (synHeader sid)))) server
+      ∙ ap (λ (b : Bool). if (shortStorage lim e st) 9 (first (synCases lim Server b (full (e .slots)) (synHeader sid)))) new
+      ∙ ap (λ (b : Bool). if (shortStorage lim e st) 9 (first (synCases lim Server false b (synHeader sid)))) room
+      ∙ ap (λ (m : ℕ). if (shortStorage lim e st) 9 m) (syn-clear lim wide sid)
 
   begun-zero : (st : ℕ) → shortStorage lim e st ≡ false → takeNumber lim e (take n (synFor sid ++ rest)) st ≡ 0
   begun-zero st s = begun-number st ∙ ap (λ (b : Bool). if b 9 0) s

@@ -178,7 +178,7 @@ module _ (lim : Limits) (small : headerLength + lim .place < 2 ^ 32) (e : End) (
     syn-all = omega (arith, syn-size sid)
 
     pub syn-number : (st : ℕ) → takeNumber lim e (take n (synFor sid ++ rest)) st
-        ≡ if (shortStorage lim e st) 9 (first (synCases (e .role) (holds sid (e .slots)) (full (e .slots)) (synHeader sid)))
+        ≡ if (shortStorage lim e st) 9 (first (synCases lim (e .role) (holds sid (e .slots)) (full (e .slots)) (synHeader sid)))
     syn-number st = number-is st ∙ whole-number lim e g u s rest n syn-all st
 
     pub syn-answer : (st : ℕ) → takeNumber lim e (take n (synFor sid ++ rest)) st ≡ 0

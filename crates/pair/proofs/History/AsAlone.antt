@@ -12,11 +12,11 @@ use Rattle.cases.specs.Cases.{if}
 use Rattle.wire.specs.declared.kind.Kind.{Kind}
 use Rattle.wire.specs.declared.kind.Kind.the-variants.{Syn}
 use Rattle.wire.specs.Packet.{headerLength, bytes, headerBytes, headerOf, packetBytes, flagsValue}
-use Rattle.session.specs.Record.{window}
 use Rattle.table.specs.Slots.{smallestSid}
 use Rattle.table.specs.Limits.{Limits}
 use Rattle.table.proofs.Slots.{smallest-here}
 use Rattle.table.proofs.Smallest.{smallest-new}
+use Rattle.open.specs.Open.{synHeader}
 use Rattle.pair.specs.Side.{Side, client, server}
 use Rattle.pair.proofs.Lane.Half.{Packet, Out, seqnumOf, wndwOf}
 use Rattle.pair.proofs.Lane.Lane as lane
@@ -46,7 +46,7 @@ unfolding headerBytes bytes
 header-numberless k sid n q w v = refl
 
 syn-numberless : (sid : ℕ) → numberless (synFor sid) ≡ synFor 0
-syn-numberless sid = ap numberless (syn-bytes sid) ∙ header-numberless Syn sid headerLength 0 window [] ∙ sym (syn-bytes 0)
+syn-numberless sid = ap numberless (syn-bytes sid) ∙ header-numberless Syn sid headerLength 0 (synHeader sid .wndw) [] ∙ sym (syn-bytes 0)
 
 emitted-numberless : (sid : ℕ) (e : Option Packet) → numberless (emitted sid e) ≡ emitted 0 e
 emitted-numberless sid none = refl

@@ -60,7 +60,7 @@ module _ {slots : ℕ} {lim : Limits} {x : Scene} {W : World} (m : Mirror slots 
       ≡ takeDone (synHeader (W .sid (W .known))) (putOf (lowestFree (x .world server .end .slots)) (freshOf (W .sid (W .known))) (x .world server .end))
   greeting-answer =
       ap (λ (b : List ℕ). takeOf lim e (take given' b) (length (take lent storage))) (front-bytes (m .at server) head)
-      ∙ begun-answer lim (m .sizes .fits) e (made-at m server) (m .at server .up) sid low (bytesOf W l) given' (g .whole)
+      ∙ begun-answer lim (m .sizes .fits) e (made-at m server) (m .at server .up) sid low (bytesOf W l) given' (g .whole) (m .sizes .wide)
       (m .at server .role) new greeting-room
       (length (take lent storage)) long
 
@@ -69,7 +69,7 @@ module _ {slots : ℕ} {lim : Limits} {x : Scene} {W : World} (m : Mirror slots 
   greeting-storage =
       ap (λ (b : List ℕ). takeStorage lim e (take given' b) (take lent storage) ++ drop lent storage) (front-bytes (m .at server) head)
       ∙ ap (λ (s : List ℕ). s ++ drop lent storage)
-      (begun-storage lim (m .sizes .fits) e (made-at m server) (m .at server .up) sid low (bytesOf W l) given' (g .whole)
+      (begun-storage lim (m .sizes .fits) e (made-at m server) (m .at server .up) sid low (bytesOf W l) given' (g .whole) (m .sizes .wide)
       (m .at server .role) new greeting-room
       (take lent storage) long)
       ∙ take-append-drop lent storage

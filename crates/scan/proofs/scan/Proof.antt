@@ -9,7 +9,7 @@ use lib.Dec.{eqb}
 use borrow.Author.Needs.{needs}
 use borrow.Author.Tests.{eq-eqb, ne-eqb, not-true, not-false}
 use Rattle.cases.specs.Cases.{if}
-use Rattle.session.specs.Record.{window, payloadLimit, inUse, free}
+use Rattle.session.specs.Record.{highest, payloadLimit, inUse, free}
 use Rattle.session.specs.Well.{inOrder}
 use Rattle.session.proofs.Past.{past}
 use Rattle.session.specs.declared.record.Session.{Session}
@@ -116,7 +116,7 @@ used-turn c b q =
     (c .before .before .before .before .before .before .before .before .loop .marks)
     (c .before .before .before .before .before .before .before .before .loop .twice) (suc n) =
     rw k (c .before .before .before .before .before .before .before .before .loop .inv .1) in
-    let o : inOrder window payloadLimit (getD (e .slots) n past) ≡ true = sym (c .before .before .before .before .before .in-order .ensures)
+    let o : inOrder highest payloadLimit (getD (e .slots) n past) ≡ true = sym (c .before .before .before .before .before .in-order .ensures)
     ∙ not-false _ (c .before .before .before .before .if1 .left) in
     let u : inUse (getD (e .slots) n past .state) ≡ true = sym (c .before .before .before .in-use .ensures) ∙ c .before .before .if2 .taken in (
       omega arith,
@@ -149,7 +149,7 @@ loop-again-3 c = let good = c .before .before .before .before .before .before .b
     (c .before .before .before .before .before .before .loop .slot) (c .before .before .before .before .before .before .loop .free)
     (c .before .before .before .before .before .before .loop .marks) (c .before .before .before .before .before .before .loop .twice) (suc n) =
     rw k (c .before .before .before .before .before .before .loop .inv .1) in
-    let o : inOrder window payloadLimit (getD (e .slots) n past) ≡ true = sym (c .before .before .before .in-order .ensures)
+    let o : inOrder highest payloadLimit (getD (e .slots) n past) ≡ true = sym (c .before .before .before .in-order .ensures)
     ∙ not-false _ (c .before .before .if1 .left) in (
       omega arith,
       seen-free base (e .up) (e .slots) (c .before .before .before .before .before .before .before .args .sid) n (omega arith) s o
