@@ -2,7 +2,8 @@
 """Brings the names of this repository's own definitions, lemmas, fields and constructors to snake case: lengthFits to length_fits, send-others to
 send_others. It goes by words, over crates/ (and the other trees named on the command line), and prints each name that it turned.
 
-usage: python3 tools/respell.py [FOLDER..]     at the top of the repository, once, after port.py
+usage: python3 tools/respell.py [FOLDER..]              at the top of the repository, once, after port.py
+       python3 tools/respell.py --rest [FOLDER..]       in a tree that it turned before: only names that are still to be turned
 
 A name is ours where specs/ or proofs/ declares it. What the library declares, what Rattle makes (loop-x-preserved), what src/ declares, strings, and
 types and modules keep their names.
@@ -13,7 +14,7 @@ import sys
 
 STOP = r"\s(){}\[\],;.`\"⌜⌝"
 WORD = re.compile(rf"[^{STOP}]+")
-DECLARED = re.compile(r"^ {0,2}(?:(?:abbrev|unfoldable|pub|record|data)\s+)*([^\s(){}\[\],;.:]+)(?:\s+[({][^=]*?[)}])*\s+:\s+(\S*)")
+DECLARED = re.compile(r"^ *(?:(?:abbrev|unfoldable|pub|record|data)\s+)*([^\s(){}\[\],;.:]+)(?:\s+[({][^=]*?[)}])*\s+:\s+(\S*)")
 CAMEL = re.compile(r"[a-z][a-z0-9_]*[A-Z][\w'₀-₉?]*")
 DASHED = re.compile(r"[^-]+(-[^-]+)+")
 
@@ -24,7 +25,8 @@ APART = {
     for w in (
         "all-free bad-line close-done close-refused close-room close-seen fin-received header-length lowest-free no-syn on-way open-answer "
         "open-number open-packet open-refused open-seen packet-length read-refused read-seen send-done send-refused send-room send-seen take-fault "
-        "take-number take-refused take-seen up-after values-of"
+        "take-number take-refused take-seen up-after values-of close-answer close-number close-packet read-ack read-payload send-number send-packet "
+        "taken-answer taken-storage"
     ).split()
 }
 # Words of paths and fields: a definition may have the same name.
@@ -75,7 +77,7 @@ def own_names():
             m = re.match(r"use ([\w.]+?)\.?\{(.*)\}", line)
             if m and not re.match(r"Rattle\.(?!std\b)", m.group(1)):
                 foreign |= {w.strip().split(" as ")[0] for w in m.group(2).split(",")}
-            if line.lstrip().startswith(("--", "use ", "pub use")):
+            if line.lstrip().startswith(("--", "use ", "pub use ")):
                 continue
             every |= set(WORD.findall(line))
             m = DECLARED.match(line)
@@ -126,6 +128,9 @@ def turn_rt(text, names):
 
 
 def main(folders):
+    if folders[:1] == ["--rest"]:
+        folders = folders[1:]
+        LEMMAS.clear()
     ours, made, foreign, every = own_names()
     names = {}
     for w in sorted(ours):
@@ -133,7 +138,7 @@ def main(folders):
             print(f"respell: left: {w}, which a library has too, in {' '.join(sorted(ours[w]))}")
         elif w in made and all(is_of_function(p) for p in ours[w]):
             continue
-        else:
+        elif turned(w) != w:
             names[w] = turned(w)
     back = {}
     for w, t in names.items():

@@ -49,6 +49,7 @@ fn stopped(e: End) -> Answer
 }
 
 // Start 0, open 1, send 2, read 3, close 4, shutdown 5, take 6. Send, read and take are made count times.
+#[tactic(auto, using(crate::proofs::Named::named_start, crate::proofs::Named::named_open, crate::proofs::Named::named_send, crate::proofs::Named::named_read, crate::proofs::Named::named_close, crate::proofs::Named::named_shutdown, crate::proofs::Named::named_take))]
 fn called(
     call: u32,
     e: End,

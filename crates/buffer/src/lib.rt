@@ -1,4 +1,6 @@
 // Bytes in a lent buffer: copied to a place, or filled in from the front. Nothing here knows what the bytes mean.
+#![tactic(auto)]
+
 ghost use Rattle.std.specs.Prelude.{◌≡◌, ◌+◌, ◌≤◌, length};
 ghost use Rattle.std.proofs.Math.Seq.{paste};
 

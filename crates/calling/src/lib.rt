@@ -1,4 +1,6 @@
 // What the calls share: the refusals that send, read and close begin with.
+#![tactic(auto)]
+
 ghost use Rattle.std.specs.Prelude.{◌≡◌};
 ghost use Rattle.cases.specs.Cases.{first};
 ghost use Rattle.calling.specs.Calling.{seen_cases};
@@ -8,6 +10,7 @@ use scan::Look;
 
 // The refusals that send, read and close begin with, of what was seen of an end and whether it is up: 12 where it isn't well made, 1 where it is
 // down, 4 where no slot holds the SID; else 0.
+#[tactic(auto, unfolding(cases::specs::Cases::first))]
 pub fn called_number(l: Look, up: bool) -> u8
     ensures { result ≡ first (seen_cases l up) }
 {

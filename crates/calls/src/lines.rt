@@ -5,7 +5,7 @@ use crate::command;
 use crate::world::{Storage, World};
 use fields::answer::Buffer;
 use fields::{reply, rooms};
-use libc::{STDERR_FILENO, STDIN_FILENO, STDOUT_FILENO};
+use std::io::{Read, Stderr, Stdin, Stdout, Write};
 use text::line::end_of;
 use words::held;
 use words::held::Line;
@@ -20,7 +20,7 @@ pub type Bytes = [u8; READ];
 const READS: u64 = 9223372036854775808;
 
 // What is kept from one read to the next: how long the line that isn't ended yet is so far, and whether there is more to do.
-#[derive(Drop)]
+#[derive(Clone, Copy)]
 pub struct Turn {
     pub world: World,
     pub held: usize,
@@ -41,33 +41,46 @@ impl Turn {
     }
 }
 
-fn lost() {
-    io::write_all(
-        STDERR_FILENO,
-        b"calls: standard output took no more; an answer is lost\n",
-    );
+// The program's three streams.
+#[derive(Clone, Copy)]
+pub struct Streams {
+    pub input: Stdin,
+    pub output: Stdout,
+    pub error: Stderr,
+}
+
+fn lost(mut to: Stderr) {
+    let _ = to.write_all(b"calls: standard output took no more; an answer is lost\n");
 }
 
 // The answer line goes out in one write. Where it can't, standard error is told.
-fn write(out: &[u8], n: usize) -> bool {
+fn write(mut streams: Streams, out: &[u8], n: usize) -> bool {
     let k = rooms::within(n, out);
-    let went = io::write_all(STDOUT_FILENO, &out[..k]);
+    let went = streams.output.write_all(&out[..k]).is_ok();
     if !went {
-        lost();
+        lost(streams.error);
     }
     went
 }
 
 // The line that is held is answered.
-fn ended(w: World, length: usize, line: &[u8], storage: &mut Storage, out: &mut Buffer) -> Turn {
+fn ended(
+    streams: Streams,
+    w: World,
+    length: usize,
+    line: &[u8],
+    storage: &mut Storage,
+    out: &mut Buffer,
+) -> Turn {
     let n = held::counted(length, line);
     let v = command::answer(w, &line[..n], storage, out);
     let k = reply::ended(out, v.said);
-    Turn::of(v, 0, write(out, k))
+    Turn::of(v, 0, write(streams, out, k))
 }
 
 // Some characters of a line, which is answered if it ends there.
 fn piece(
+    streams: Streams,
     t: Turn,
     part: &[u8],
     is_end: bool,
@@ -77,18 +90,33 @@ fn piece(
 ) -> Turn {
     let length = held::join(line, t.held, part);
     if is_end {
-        return ended(t.world, length, line, storage, out);
+        return ended(streams, t.world, length, line, storage, out);
     }
     Turn::of(t.world, length, true)
 }
 
 // What one read gave: each line that ends in it is answered, and the rest is held.
-fn chunk(t: Turn, bytes: &[u8], line: &mut Line, storage: &mut Storage, out: &mut Buffer) -> Turn {
+fn chunk(
+    streams: Streams,
+    t: Turn,
+    bytes: &[u8],
+    line: &mut Line,
+    storage: &mut Storage,
+    out: &mut Buffer,
+) -> Turn {
     let mut u = t;
     let mut at = 0;
     while at < bytes.len() {
         let e = end_of(bytes, at);
-        u = piece(u, &bytes[at..e], e < bytes.len(), line, storage, out);
+        u = piece(
+            streams,
+            u,
+            &bytes[at..e],
+            e < bytes.len(),
+            line,
+            storage,
+            out,
+        );
         if !u.going {
             return u;
         }
@@ -98,31 +126,30 @@ fn chunk(t: Turn, bytes: &[u8], line: &mut Line, storage: &mut Storage, out: &mu
 }
 
 // The input ended: a last line without LF counts if not empty.
-fn last(t: Turn, line: &[u8], storage: &mut Storage, out: &mut Buffer) {
+fn last(streams: Streams, t: Turn, line: &[u8], storage: &mut Storage, out: &mut Buffer) {
     if 0 < t.held {
-        ended(t.world, t.held, line, storage, out);
+        ended(streams, t.world, t.held, line, storage, out);
     }
 }
 
-// One read. The answer is how many bytes came: none at the end of the input.
-fn more(bytes: &mut Bytes) -> usize
+// One read. The answer is how many bytes came: none at the end of the input, or where it can't be read.
+fn more(mut from: Stdin, bytes: &mut Bytes) -> usize
     ensures { Front result bytes.new }
 {
-    let got = libc::read(STDIN_FILENO, bytes);
-    io::count(got, bytes)
+    from.read(bytes).unwrap_or(0)
 }
 
 // Read after read, until the input ends or the output takes no more.
-pub(crate) fn converse(line: &mut Line, storage: &mut Storage, out: &mut Buffer) {
+pub(crate) fn converse(streams: Streams, line: &mut Line, storage: &mut Storage, out: &mut Buffer) {
     let mut t = Turn::first();
     let mut bytes = [0u8; READ];
     let mut left = READS;
     while 0 < left {
-        let n = more(&mut bytes);
+        let n = more(streams.input, &mut bytes);
         if n == 0 {
-            return last(t, line, storage, out);
+            return last(streams, t, line, storage, out);
         }
-        t = chunk(t, &bytes[..n], line, storage, out);
+        t = chunk(streams, t, &bytes[..n], line, storage, out);
         if !t.going {
             return;
         }

@@ -1,4 +1,6 @@
 // An end on standard input: a call a line, and an answer line for each. Another program can converse with it through pipes.
+#![tactic(auto)]
+
 mod command;
 mod library;
 mod lines;
@@ -6,12 +8,18 @@ mod own;
 mod world;
 
 use fields::answer;
+use lines::Streams;
 use table::storage;
 use words::held;
 
-fn main() {
+fn main(rt: HostRuntime) {
+    let streams = Streams {
+        input: rt.stdin(),
+        output: rt.stdout(),
+        error: rt.stderr(),
+    };
     let mut line = [0u8; held::LONGEST];
     let mut lent = [0u8; storage::LENGTH];
     let mut out = [0u8; answer::LONGEST];
-    lines::converse(&mut line, &mut lent, &mut out);
+    lines::converse(streams, &mut line, &mut lent, &mut out);
 }

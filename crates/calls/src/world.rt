@@ -5,7 +5,7 @@ use table::storage;
 pub type Storage = [u8; storage::LENGTH];
 
 // The end, how much of the storage its calls get, and the length of the last answer.
-#[derive(Drop)]
+#[derive(Clone, Copy)]
 pub struct World {
     pub end: End,
     pub lend: usize,
@@ -13,7 +13,7 @@ pub struct World {
 }
 
 // The end that a line left, and the length of its answer.
-#[derive(Drop)]
+#[derive(Clone, Copy)]
 pub struct Said {
     pub end: End,
     pub length: usize,

@@ -1,4 +1,6 @@
 // A capture of frames, line by line, fed to one fresh server: from the input's bytes to the report's bytes. No input and no output here.
+#![tactic(auto)]
+
 ghost use Rattle.std.specs.Prelude.{◌≡◌, ◌-◌, ◌≤◌, length};
 ghost use Rattle.buffer.specs.Onto.{onto};
 ghost use Rattle.table.specs.declared.end.Role as role';

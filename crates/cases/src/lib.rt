@@ -1,4 +1,6 @@
 // Tests, the numbers that come back, and their order: the definitions are in specs/, their laws in proofs/.
+#![tactic(auto)]
+
 ghost use Rattle.std.specs.Prelude.{◌≡◌, ◌&&◌, ◌||◌};
 ghost use Rattle.cases.specs.Cases.{done};
 

@@ -12,6 +12,7 @@ use wire::header::Header;
 use wire::kind::Kind;
 
 // 5, 9.
+#[tactic(auto, unfolding(cases::specs::Cases::first))]
 fn session_number(x: Session, room: usize) -> u8
     ensures { result ≡ first (close_cases x room) }
 {
@@ -26,6 +27,7 @@ fn session_number(x: Session, room: usize) -> u8
 }
 
 // Close's number, of what was seen of the end, whether it is up, and the room in the packet buffer: 12, 1, 4, then the session's; 0 if it is done.
+#[tactic(auto, using(calling::proofs::Looked::found))]
 pub fn close_number(l: Look, up: bool, room: usize) -> u8
     ensures { result ≡ first (seen_cases l up ++ close_cases l.session room) }
 {

@@ -1,4 +1,6 @@
 // Close: FIN goes out, and the session is FIN SENT or gone.
+#![tactic(auto)]
+
 ghost use Rattle.std.specs.Prelude.{◌≡◌};
 ghost use Rattle.buffer.specs.Onto.{Front};
 ghost use Rattle.close.specs.Close.{close_done, close_refused, ClosePromise};
@@ -12,7 +14,7 @@ use wire::header::Header;
 pub mod decide;
 
 // What close answers. After a refusal length is 0.
-#[derive(Drop)]
+#[derive(Clone, Copy)]
 pub struct Closed {
     // 0, or the number of the refusal: 12, 1, 4, 5, 9.
     pub number: u8,

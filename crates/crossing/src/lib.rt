@@ -1,5 +1,7 @@
 // An end as words: role, up, then eleven words for each slot: state, SID, S, H, R, G, L and the four lengths. A word too wide for its field is cut,
 // a word that isn't there is 0.
+#![tactic(auto)]
+
 ghost use Rattle.std.specs.Prelude.{◌<◌, ◌≡◌, set};
 ghost use Rattle.std.proofs.lemmas.List.Edits.{sets};
 ghost use Rattle.table.specs.End.{slot_count};

@@ -13,7 +13,7 @@ use Rattle.session.specs.declared.record.Session.{Session}
 use Rattle.session.specs.Counter.{minus, plus}
 use Rattle.session.specs.Record.{least, in_use, Fits}
 use Rattle.session.specs.Well.{InOrder}
-use Rattle.session.proofs.Kept.{Keeps, free_keeps, same_keeps, granted-in, stored-keeps}
+use Rattle.session.proofs.Kept.{Keeps, free_keeps, same_keeps, granted_in, stored_keeps}
 use Rattle.effect.specs.Taken.{window_in_range, grant_in_range, seqnum_in_range, cell_of, becomes}
 
 -- WNDW in range is at most the highest window past S
@@ -38,9 +38,9 @@ module _ {most limit : ℕ} {x : Session} (o : InOrder most limit x) (f : Fits x
       by Established e Data q =
           let r : eqb seqnum (plus x.r 1) && not (eqb x.r x.g) ≡ true = rw e at q in
           let p = and_split (eqb seqnum (plus x.r 1)) (not (eqb x.r x.g)) r in
-          stored-keeps o f u seqnum wndw n hs hw hn high (eqb-true _ _ p.0) (eqb-false _ _ (not-true _ p.1))
-      by Established e Ack q = granted-in o f u seqnum wndw n hs hw hn high x.state u
-      by Established e Fin q = granted-in o f u seqnum wndw n hs hw hn high FinReceived refl
+          stored_keeps o f u seqnum wndw n hs hw hn high (eqb-true _ _ p.0) (eqb-false _ _ (not-true _ p.1))
+      by Established e Ack q = granted_in o f u seqnum wndw n hs hw hn high x.state u
+      by Established e Fin q = granted_in o f u seqnum wndw n hs hw hn high FinReceived refl
       by Established e Syn q = same_keeps o f u
       by FinSent e Data q = same_keeps o f u
       by FinSent e Ack q = same_keeps o f u

@@ -6,7 +6,7 @@ use session::record::{Session, State};
 use wire::kind::Kind;
 
 // A cell of the table.
-#[derive(Drop)]
+#[derive(Clone, Copy)]
 pub enum Cell {
     Store,
     Grant,

@@ -8,6 +8,7 @@ use session::record::Session;
 use wire::kind::Kind;
 
 // Whether a packet's WNDW is in range for the record: H - S <= WNDW - S <= most, so that the window never shrinks and never passes the highest.
+#[tactic(auto, unfolding(crate::specs::Taken::window_in_range))]
 pub fn window_in_range(x: Session, most: u32, wndw: u32) -> bool
     ensures { result ≡ window_in_range most x wndw }
 {
@@ -36,6 +37,7 @@ fn is_data(k: Kind) -> bool
 
 // Whether a packet's SEQNUM is in range for the record: DATA in ESTABLISHED is the next packet, R + 1, and there is room for it; all else lies in the
 // window, SEQNUM - R <= G - R.
+#[tactic(auto, unfolding(crate::specs::Taken::seqnum_in_range))]
 pub fn seqnum_in_range(x: Session, k: Kind, seqnum: u32) -> bool
     ensures { result ≡ seqnum_in_range x k seqnum }
 {

@@ -67,7 +67,7 @@ module _ (e : End) (line : List ℕ) where
   fed_frame p b b' k r lent exit o q g =
       let l = decoded b b' k o q in (
         g.0 ∙ ap (frame_fed e) l ∙ sym (rw p),
-        g.1 ∙ ap (λ (f : List ℕ). take_storage base e f lent) l ∙ sym (rw p),
+        g.1 ∙ ap (λ (f : List ℕ). take_storage base e f lent) l ∙ sym cc,
       )
 
   -- the report's line and the server are those of the definition

@@ -1,4 +1,6 @@
 // One line of the input: judged, and fed to the server if it is a frame.
+#![tactic(auto)]
+
 ghost use Rattle.std.specs.Prelude.{◌≡◌};
 ghost use Rattle.table.specs.Limits.{base};
 ghost use Rattle.take.specs.Take.{take_storage};
@@ -12,7 +14,7 @@ use table::storage;
 use wire::header::Header;
 
 // What the report tells of a line, and the server after it.
-#[derive(Drop)]
+#[derive(Clone, Copy)]
 pub struct Fed {
     pub line: Line,
     pub end: End,
@@ -25,6 +27,7 @@ const FRAME: usize = Header::LEN + (Session::PAYLOAD as usize);
 const DIGITS: usize = 2 * FRAME;
 
 // How many packets of the frame's session are unread at the end e; 0 where the frame has no whole header, or e no such session.
+#[tactic(auto, unfolding(crate::specs::Line::unread_for))]
 fn unread_for(e: End, frame: &[u8]) -> u32
     ensures { result ≡ unread_for e frame.now }
 {
@@ -61,6 +64,7 @@ fn is_frame(line: &[u8]) -> bool
 
 // Feeds a line of the input to the server e if it is a frame: to one take, which stores a payload in the storage. Answers what the report tells of
 // the line, and the server after it. A line that is no frame changes neither server nor storage.
+#[tactic(auto, unfolding(crate::specs::Parts::line_fed, crate::specs::Parts::line_storage))]
 pub fn one_line(e: End, line: &[u8], storage: &mut [u8; storage::LENGTH]) -> Fed
     ensures value { result ≡ line_fed e line.now }
     ensures storage_after { storage.new ≡ line_storage e line.now storage.old }

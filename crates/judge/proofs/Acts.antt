@@ -16,7 +16,7 @@ use Rattle.wire.specs.declared.kind.Kind.TheVariants.{Syn, Ack, Fin, Data}
 use Rattle.wire.specs.declared.kind.Flags.TheVariants.{One}
 use Rattle.wire.specs.Packet.{flags_of, SoundHeader, header_cases, header_number, shape_of}
 use Rattle.wire.proofs.Flags.{flags_named}
-use Rattle.wire.proofs.Shapes.{sound, is-0, is_sound, fault_number, exactly_0}
+use Rattle.wire.proofs.Shapes.{sound, is_0, is_sound, fault_number, exactly_0}
 use Rattle.session.specs.declared.record.Session.{Session}
 use Rattle.session.specs.Record.{payload_limit}
 use Rattle.effect.specs.Taken.{cell_of}
@@ -94,19 +94,19 @@ module _ (role : Role) (held none : Bool) (x : Session) (h : Header) (given : �
     flags : flags_of h.flags ≡ One k
     flags = flags_named h.flags k (sound payload_limit h k p).flags
 
-    after-header : first (packet_cases base role held none x h given) ≡ first after
-    after-header = joined ∙ done_0 (header_number payload_limit h) (first after) (header_number payload_limit h)
-        (is-0 payload_limit h (sound payload_limit h k p).smid k flags (sound payload_limit h k p).fits)
+    after_header : first (packet_cases base role held none x h given) ≡ first after
+    after_header = joined ∙ done_0 (header_number payload_limit h) (first after) (header_number payload_limit h)
+        (is_0 payload_limit h (sound payload_limit h k p).smid k flags (sound payload_limit h k p).fits)
 
-    pub packet-short : given < h.length → Stop 10 ≡ packet_act_of role held none x h given
+    pub packet_short : given < h.length → Stop 10 ≡ packet_act_of role held none x h given
     unfolding packet_act_of
-    packet-short l =
-        stops (kind_act (flags_of h.flags) x) (sym (after-header ∙ says (here (lt-ltb _ _ l)))) (λ z. omega arith)
+    packet_short l =
+        stops (kind_act (flags_of h.flags) x) (sym (after_header ∙ says (here (lt-ltb _ _ l)))) (λ z. omega arith)
 
-    pub packet-on : {r : Act} → h.length ≤ given → r ≡ kind_act_of k role held none x h → r ≡ packet_act_of role held none x h given
+    pub packet_on : {r : Act} → h.length ≤ given → r ≡ kind_act_of k role held none x h → r ≡ packet_act_of role held none x h given
     unfolding packet_act_of kind_act_of
-    packet-on l a =
-        let q : first (packet_cases base role held none x h given) ≡ first (kind_cases base (flags_of h.flags) role held none x h) = after-header
+    packet_on l a =
+        let q : first (packet_cases base role held none x h given) ≡ first (kind_cases base (flags_of h.flags) role held none x h) = after_header
         ∙ skipped 10 (kind_cases base (flags_of h.flags) role held none x h) (le-ltb _ _ l) in
         a ∙ rw (q, flags)
 

@@ -172,19 +172,19 @@ module _ (e : End) (bytes lent : List ℕ) (long : 16 ≡ length e.slots) {h : H
       ∙ ap (λ (b : Bool). first (packet_cases base e.role (holds h.sid e.slots) b (session_of h.sid e.slots) h (length bytes))) none
 
   pub outcome : Outcome e bytes (length lent) h l a
-  outcome = by-gate (eqb gate 0) refl
+  outcome = by_gate (eqb gate 0) refl
     where
       stop : (n : ℕ) → 0 < n → take_number base e bytes (length lent) ≡ n → done gate (found l) gate ≡ n → Outcome e bytes (length lent) h l a
       stop n p q f =
           stopping n q p
           (act_is ∙ ap (λ (m : ℕ). acted m h l.session) f ∙ done_not n (kind_act (flags_of h.flags) l.session) (Stop n) p)
 
-      by-rest : gate ≡ 0 → h ≡ read_header bytes → l ≡ seen_all e h.sid → storage_length payload_limit slot_count ≤ length lent → (b : Bool) → eqb (rest h) 0 ≡ b
+      by_rest : gate ≡ 0 → h ≡ read_header bytes → l ≡ seen_all e h.sid → storage_length payload_limit slot_count ≤ length lent → (b : Bool) → eqb (rest h) 0 ≡ b
           → Outcome e bytes (length lent) h l a
-      by-rest z ph pl s false q =
+      by_rest z ph pl s false q =
           stop (rest h) (omega (arith, eqb-false (rest h) 0 q)) (number_is ∙ done_0 gate (rest (read_header bytes)) gate z ∙ ap rest (sym ph))
           (done_0 gate (found l) gate z ∙ found_is pl)
-      by-rest z ph pl s true q =
+      by_rest z ph pl s true q =
           let r : rest h ≡ 0 = eqb-true (rest h) 0 q in
           let x = session_of h.sid e.slots in
           let k = accepted e.role (holds h.sid e.slots) (full e.slots) x h (length bytes) r in
@@ -193,15 +193,15 @@ module _ (e : End) (bytes lent : List ℕ) (long : 16 ≡ length e.slots) {h : H
           going k.0 (number_is ∙ done_0 gate (rest (read_header bytes)) gate z ∙ ap rest (sym ph) ∙ r) ph pl
           (does ∙ ap (λ (v : Look). kind_act (flags_of h.flags) v.session) pl ∙ ap (λ (f : Flags). kind_act f x) k.1.flags) k.1 s
 
-      by-gate : (b : Bool) → eqb gate 0 ≡ b → Outcome e bytes (length lent) h l a
-      by-gate false q =
+      by_gate : (b : Bool) → eqb gate 0 ≡ b → Outcome e bytes (length lent) h l a
+      by_gate false q =
           let p : 0 < gate = omega (arith, eqb-false gate 0 q) in
           stop gate p (number_is ∙ done_not gate (rest (read_header bytes)) gate p) (done_not gate (found l) gate p)
-      by-gate true q =
+      by_gate true q =
           let z : gate ≡ 0 = eqb-true gate 0 q in
           let c = passed (well_made base e) e.up (short_storage base e (length lent)) (length bytes) z in
           let ph : h ≡ read_header bytes = front ∙ rw (le-ltb (length bytes) header_length c.2) in
-          by-rest z ph (sees true c.0) (ltb-false (length lent) (storage_length payload_limit slot_count) (short_is ∙ c.1)) (eqb (rest h) 0) refl
+          by_rest z ph (sees true c.0) (ltb-false (length lent) (storage_length payload_limit slot_count) (short_is ∙ c.1)) (eqb (rest h) 0) refl
 
   pub missing_is : missing_of h (length bytes) ≡ missing bytes
   missing_is = ap (λ (g : Header). missing_of g (length bytes)) front ∙ missing_step (ltb (length bytes) header_length) (read_header bytes) (length bytes)

@@ -1,4 +1,6 @@
 // What judges a packet, before anything is written: the header at the front, the number that take gives, and what is to be done.
+#![tactic(auto)]
+
 ghost use Rattle.std.specs.Prelude.{◌≡◌};
 ghost use Rattle.cases.specs.Cases.{first};
 ghost use Rattle.session.specs.Record.{in_use};
@@ -16,7 +18,7 @@ use wire::header::{Header, Shape};
 use wire::kind::Kind;
 
 // What take does: it stops with a number, begins a session, or does what a cell of the table says.
-#[derive(Drop)]
+#[derive(Clone, Copy)]
 pub enum Act {
     Stop(u8),
     Begin,
@@ -46,6 +48,7 @@ pub fn missing(h: Header, given: usize) -> usize
 }
 
 // 12, 1, 9, 10.
+#[tactic(auto, unfolding(cases::specs::Cases::first))]
 fn gate_number(made: bool, up: bool, short: bool, given: usize) -> u8
     ensures { result ≡ first (take_cases made up short given) }
 {
@@ -74,6 +77,7 @@ fn is_client(role: Role) -> bool
 }
 
 // For SYN: 24, 25, 26, 27.
+#[tactic(auto, unfolding(cases::specs::Cases::first))]
 fn syn_number(role: Role, held: bool, none: bool, h: Header) -> u8
     ensures { result ≡ first (syn_cases base role held none h) }
 {
@@ -93,6 +97,7 @@ fn syn_number(role: Role, held: bool, none: bool, h: Header) -> u8
 }
 
 // For others: 23, 30, 28, 29.
+#[tactic(auto, unfolding(cases::specs::Cases::first))]
 fn other_number(k: Kind, held: bool, x: Session, h: Header) -> u8
     ensures { result ≡ first (other_cases base k held x h) }
 {
@@ -113,6 +118,7 @@ fn other_number(k: Kind, held: bool, x: Session, h: Header) -> u8
 }
 
 // A whole packet of that kind.
+#[tactic(auto, using(crate::proofs::Acts::syn_stops, crate::proofs::Acts::syn_begins, crate::proofs::Acts::other_stops, crate::proofs::Acts::other_does))]
 fn kind_act(k: Kind, role: Role, held: bool, none: bool, x: Session, h: Header) -> Act
     ensures { result ≡ kind_act_of k role held none x h }
 {
@@ -138,6 +144,7 @@ fn kind_act(k: Kind, role: Role, held: bool, none: bool, x: Session, h: Header) 
 }
 
 // 20, 21, 22; 10 if under LENGTH; then by kind.
+#[tactic(auto, using(crate::proofs::Acts::packet_fault, crate::proofs::Acts::packet_short, crate::proofs::Acts::packet_on))]
 fn packet_act(role: Role, held: bool, none: bool, x: Session, h: Header, given: usize) -> Act
     ensures { result ≡ packet_act_of role held none x h given }
 {
@@ -155,6 +162,7 @@ fn packet_act(role: Role, held: bool, none: bool, x: Session, h: Header, given: 
 // What take is to do, for what was seen of an end, whether it is up, whether the storage is too short, its role, whether no slot is free, the header
 // at the front and how many bytes were given: stop with the first number that applies, of 12, 1, 9, 10 and the packet's own; else begin a session for
 // a SYN, and for another packet do what the table's cell says.
+#[tactic(auto, using(crate::proofs::Acts::gate_stops, crate::proofs::Acts::gate_passed))]
 pub fn act_of(
     l: Look,
     up: bool,

@@ -100,9 +100,9 @@ module _ (lim : Limits) {e : End} (s : Sound lim e) where
         → Sound lim (table.changed_of sid f e)
     change f h k = changed_sound s sid h f (k (found_order s sid h) (found_fits s sid h) (found_used s sid h))
 
-    send-held : (payload : List ℕ) (room : ℕ) → Sound lim (send_of lim e sid payload room).end
+    send_held : (payload : List ℕ) (room : ℕ) → Sound lim (send_of lim e sid payload room).end
     unfolding send_of send_number numbered test
-    send-held payload room = either (λ (r : Sent). Sound lim r.end) (send_number lim e sid (length payload) room) _ _ go s
+    send_held payload room = either (λ (r : Sent). Sound lim r.end) (send_number lim e sid (length payload) room) _ _ go s
       where
         cases : List Case
         cases = calling lim e sid ++ send_cases lim x (length payload) room
@@ -122,9 +122,9 @@ module _ (lim : Limits) {e : End} (s : Sound lim e) where
             change read_on (not-false _ (clear cases 4 refl p))
             (λ o f u. read_keeps o f u (some_unread x u (clear cases 5 refl p) (clear cases 8 refl p) (clear cases 11 refl p)))
 
-    close-held : (room : ℕ) → Sound lim (close_of lim e sid room).end
+    close_held : (room : ℕ) → Sound lim (close_of lim e sid room).end
     unfolding close_of close_number numbered test
-    close-held room = either (λ (r : Closed). Sound lim r.end) (close_number lim e sid room) _ _ go s
+    close_held room = either (λ (r : Closed). Sound lim r.end) (close_number lim e sid room) _ _ go s
       where
         cases : List Case
         cases = calling lim e sid ++ close_cases x room
@@ -156,10 +156,10 @@ module _ (lim : Limits) {e : End} (s : Sound lim e) where
     all_fit rest d p = fits (ltb-false _ _ (clear (cases rest) 10 d p))
 
     -- a SYN begins a session
-    syn-held : first (cases (syn_cases lim e.role known (full e.slots) h)) ≡ 0
+    syn_held : first (cases (syn_cases lim e.role known (full e.slots) h)) ≡ 0
         → Sound lim (table.put_of (lowest_free e.slots) (granted_on h.wndw (fresh_of h.sid)) e)
     unfolding numbered test
-    syn-held p =
+    syn_held p =
         begun_sound s h.wndw (omega (arith, (all_fit rest refl p).wndw)) high (not-false _ (clear (cases rest) 1 refl p)) (clear (cases rest) 26 refl p)
         h.sid (omega (arith, (all_fit rest refl p).sid)) (clear (cases rest) 25 refl p)
       where
@@ -170,10 +170,10 @@ module _ (lim : Limits) {e : End} (s : Sound lim e) where
         high = granted_most lim.window h.wndw (and_split (eqb h.seqnum 0) _ (not-false _ (clear (cases rest) 27 refl p))).1
 
     -- any other packet makes of its session what the table says
-    other-held : (k : Kind) → flags_of h.flags ≡ One k → first (cases (other_cases lim k known found h)) ≡ 0
+    other_held : (k : Kind) → flags_of h.flags ≡ One k → first (cases (other_cases lim k known found h)) ≡ 0
         → Sound lim (table.changed_of h.sid (taken_on k h) e)
     unfolding numbered test
-    other-held k q p =
+    other_held k q p =
         change h.sid (taken_on k h) (not-false _ (clear (cases rest) 23 refl p))
         (λ o f u. becomes_keeps o f u h.seqnum h.wndw (h.length - header_length)
         (omega (arith, fit.seqnum)) (omega (arith, fit.wndw)) (omega (arith, sound.high))
@@ -191,13 +191,13 @@ module _ (lim : Limits) {e : End} (s : Sound lim e) where
         sound : SoundHeader lim.place h k
         sound = shapes.made lim.place h k (eqb-true _ _ (not-false _ (clear (cases rest) 20 refl p))) q (rw q at whole)
 
-    taken-held : (f : Flags) → flags_of h.flags ≡ f
+    taken_held : (f : Flags) → flags_of h.flags ≡ f
         → first (cases (kind_cases lim f e.role known (full e.slots) found h)) ≡ 0 → Sound lim (taken_end f h e)
-    taken-held (One Syn) q p = syn-held p
-    taken-held (One Ack) q p = other-held Ack q p
-    taken-held (One Fin) q p = other-held Fin q p
-    taken-held (One Data) q p = other-held Data q p
-    taken-held Wrong q p = s
+    taken_held (One Syn) q p = syn_held p
+    taken_held (One Ack) q p = other_held Ack q p
+    taken_held (One Fin) q p = other_held Fin q p
+    taken_held (One Data) q p = other_held Data q p
+    taken_held Wrong q p = s
 
   -- a refusal returns the record as lent, a fault the end down
   take_held : (bytes : List ℕ) → AreBytes bytes → (storage : ℕ) → Sound lim (take_of lim e bytes storage).end
@@ -211,7 +211,7 @@ module _ (lim : Limits) {e : End} (s : Sound lim e) where
       n = take_number lim e bytes storage
 
       go : n ≡ 0 → Sound lim (taken_end (flags_of h.flags) h e)
-      go = taken-held h (length bytes) storage (λ long. read_fits bytes long all) (flags_of h.flags) refl
+      go = taken_held h (length bytes) storage (λ long. read_fits bytes long all) (flags_of h.flags) refl
 
       by : (b : Bool) → Sound lim (if b (take_refused n (missing bytes) e) (take_fault n e)).end
       by true = s
@@ -238,7 +238,7 @@ open_kept {lent = lent} p = rw p.answer (kept (λ s. open_held base s (omega ari
 
 pub send_kept : {e : End} {sid : ℕ} {payload lent exit : List ℕ} {r : Sent} → SendPromise e sid payload lent r exit
     → well_made base e ≡ true → Fits e → (well_made base r.end ≡ true) × Fits r.end
-send_kept {sid = sid} {payload} {lent} p = rw p.answer (kept (λ s. send-held base s sid payload (length lent)))
+send_kept {sid = sid} {payload} {lent} p = rw p.answer (kept (λ s. send_held base s sid payload (length lent)))
 
 pub read_kept : {e : End} {sid : ℕ} {storage lent lentAck exit exitAck : List ℕ} {r : Got} → ReadPromise e sid storage lent lentAck r exit exitAck
     → well_made base e ≡ true → Fits e → (well_made base r.end ≡ true) × Fits r.end
@@ -247,7 +247,7 @@ read_kept {sid = sid} {storage} {lent} {lentAck} p =
 
 pub close_kept : {e : End} {sid : ℕ} {lent exit : List ℕ} {r : Closed} → ClosePromise e sid lent r exit
     → well_made base e ≡ true → Fits e → (well_made base r.end ≡ true) × Fits r.end
-close_kept {sid = sid} {lent} p = rw p.answer (kept (λ s. close-held base s sid (length lent)))
+close_kept {sid = sid} {lent} p = rw p.answer (kept (λ s. close_held base s sid (length lent)))
 
 pub shutdown_kept : {e : End} {r : Stopped} → ShutdownPromise e r
     → well_made base e ≡ true → Fits e → (well_made base r.end ≡ true) × Fits r.end

@@ -19,6 +19,7 @@ fn is_server(role: Role) -> bool
 }
 
 // Open's number: 12 not well made, 1 down, 2 at a server, 3 no free slot, 9 a room under 16; 0 if it is done.
+#[tactic(auto, unfolding(cases::specs::Cases::first))]
 pub fn open_number(made: bool, up: bool, role: Role, none: bool, room: usize) -> u8
     ensures { result ≡ first (open_cases made up role none room) }
 {

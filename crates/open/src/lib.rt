@@ -1,4 +1,6 @@
 // Open: a client's new session, and its SYN.
+#![tactic(auto)]
+
 ghost use Rattle.std.specs.Prelude.{◌≡◌};
 ghost use Rattle.buffer.specs.Onto.{Front};
 ghost use Rattle.open.specs.Open.{open_done, open_refused, OpenPromise};
@@ -13,7 +15,7 @@ use wire::header::Header;
 pub mod decide;
 
 // What open answers. After a refusal sid and length are 0.
-#[derive(Drop)]
+#[derive(Clone, Copy)]
 pub struct Opened {
     // 0, or the number of the refusal: 12, 1, 2, 3, 9.
     pub number: u8,

@@ -65,9 +65,9 @@ module _ (storage : Side → List ℕ) (steps : List Step) where
   fin_received_lem = any.fin_received_lem slot_count base storage steps sizes
 
   module _ (k : Side) (i n : ℕ) (s : Holds x k i n) (e : (slot_at x k i).state ≡ FinReceived) where
-    pub told-unread : unread (slot_at x k i) ≡ 0 → (room ack lent : ℕ)
+    pub told_unread : unread (slot_at x k i) ≡ 0 → (room ack lent : ℕ)
         → (reply_to base (record { side = k; call = Read (slot_at x k i).sid room ack lent }) x.world).number ≡ 11
-    told-unread = any.told-unread slot_count base storage steps sizes k i n s e
+    told_unread = any.told_unread slot_count base storage steps sizes k i n s e
 
     pub told : received k (own n h) ≡ accepted (other k) (own n h) → (room ack lent : ℕ)
         → (reply_to base (record { side = k; call = Read (slot_at x k i).sid room ack lent }) x.world).number ≡ 11
@@ -103,9 +103,9 @@ module _ (storage : Side → List ℕ) (steps : List Step) where
         → Enough base x k lent → (reply_to base (record { side = k; call = Read (slot_at x k i).sid room ack lent }) x.world).number ≡ 0
     read_goes = any.read_goes slot_count base storage steps sizes k i n s
 
-    pub close-goes : fin_sent (slot_at x k i).state ≡ false → (room : ℕ) → header_length ≤ room
+    pub close_goes : fin_sent (slot_at x k i).state ≡ false → (room : ℕ) → header_length ≤ room
         → (reply_to base (record { side = k; call = Close (slot_at x k i).sid room }) x.world).number ≡ 0
-    close-goes = any.close-goes slot_count base storage steps sizes k i n s
+    close_goes = any.close_goes slot_count base storage steps sizes k i n s
 
     pub send_goes : (slot_at x k i).state ≡ Established → (slot_at x k i).s ≢ (slot_at x k i).h → (payload : List ℕ) (room : ℕ) → length payload ≤ payload_limit
         → header_length + length payload ≤ room

@@ -168,16 +168,16 @@ many = replicate 17 (record { side = client; call = Open 16 }) ++ replicate 17 (
 -- and shows the wrap computed. That runs from a fresh pair get past it is what the theorems say, since they bound no run's length.
 abbrev pub late : Scene
 late = record {
-  world = worldAt;
+  world = world_at;
   book = record { opened = 1; notes = λ k. record { coming = []; owner = λ i. 0 } };
 }
   where
     at : Role → Session → Party
     at role x = record { end = put_of 0 x (started_of 2 role); storage = replicate 32 0; coming = [] }
 
-    worldAt : Side → Party
-    worldAt client = at Client (stated_of 0 0xfffffffe 2 0 4 4)
-    worldAt server = at Server (stated_of 0 0 4 0xfffffffe 2 2)
+    world_at : Side → Party
+    world_at client = at Client (stated_of 0 0xfffffffe 2 0 4 4)
+    world_at server = at Server (stated_of 0 0 4 0xfffffffe 2 2)
 
 abbrev pub wrapping : List Line
 wrapping =

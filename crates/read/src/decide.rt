@@ -20,6 +20,7 @@ pub fn oldest_length(x: Session) -> usize
 }
 
 // 5, 8 or 11, 9.
+#[tactic(auto, unfolding(cases::specs::Cases::first))]
 fn session_number(x: Session, room: usize, ack: usize, short: bool) -> u8
     ensures { result ≡ first (read_cases x room ack short) }
 {
@@ -43,6 +44,7 @@ fn session_number(x: Session, room: usize, ack: usize, short: bool) -> u8
 
 // Read's number, of what was seen of the end, whether it is up, the rooms, and whether the storage is too short: 12, 1, 4, then the session's; 0 if
 // it is done.
+#[tactic(auto, using(calling::proofs::Looked::found))]
 pub fn read_number(l: Look, up: bool, room: usize, ack: usize, short: bool) -> u8
     ensures { result ≡ first (seen_cases l up ++ read_cases l.session room ack short) }
 {

@@ -1,4 +1,6 @@
 // Read: the oldest unread payload is handed over, and an ACK goes out where one is due.
+#![tactic(auto)]
+
 ghost use Rattle.std.specs.Prelude.{◌≡◌, false, ◌&&◌, ◌≤◌, ◌<◌, length, take, drop, ltb};
 ghost use Rattle.buffer.specs.Onto.{onto, Front};
 ghost use Rattle.wire.specs.Packet.{header_length};
@@ -20,7 +22,7 @@ use wire::header::Header;
 pub mod decide;
 
 // What read answers. After a refusal both lengths are 0.
-#[derive(Drop)]
+#[derive(Clone, Copy)]
 pub struct Got {
     // 0, or the number of the refusal: 12, 1, 4, 5, 8, 11, 9. 11 means that the writer has ended and all was read.
     pub number: u8,

@@ -1,5 +1,7 @@
 // The report's lines: from numbers and a frame's bytes to characters. Nothing here knows of ends or calls. Each function that writes does so
 // from a place on, and answers with the place behind what it wrote.
+#![tactic(auto)]
+
 ghost use Rattle.std.specs.Prelude.{◌≡◌, ◌+◌, ◌≤◌, length};
 ghost use Rattle.buffer.specs.Wrote.{Wrote};
 ghost use Rattle.report.specs.Rows.{bad_text, end_row};
@@ -8,7 +10,7 @@ ghost use Rattle.report.specs.Lines.{line_limit, row_limit, last_limit, bad_line
 mod word;
 
 // What a line tells: that the input's line is bad; or take's answer, the frame's SID in four characters, and that session's unread packets.
-#[derive(Drop)]
+#[derive(Clone, Copy)]
 pub struct Line {
     bad: bool,
     answer: u8,
@@ -67,6 +69,7 @@ fn told_row(out: &mut [u8], at: usize, n: u32, l: Line) -> usize
 
 // Writes line n of the report into `out` from place `at` on, with its LF: the number n, and what `l` tells. Answers the place behind it; no other
 // byte changes. 26 bytes are room enough for any line of a report.
+#[tactic(auto, unfolding(crate::specs::Lines::line_row))]
 pub fn line_row(out: &mut [u8], at: usize, n: u32, l: Line) -> usize
     requires { (n ≤ line_limit) × (at + row_limit ≤ length out.old) }
     ensures wrote { Wrote out.old at (line_row n l) out.new result }

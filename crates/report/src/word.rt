@@ -36,6 +36,7 @@ pub fn last_number(out: &mut [u8], at: usize, n: u32) -> usize
 }
 
 // A SID in four digits, the high byte first.
+#[tactic(auto, unfolding(text::specs::Hex::to_hex))]
 fn sid_digits(sid: u16) -> [u8; 4]
     ensures { result ≡ sid_digits sid }
 {
@@ -50,6 +51,7 @@ fn sid_digits(sid: u16) -> [u8; 4]
 }
 
 // The SID of a frame in four digits, the high byte first; dashes where the frame is shorter than a header.
+#[tactic(auto, unfolding(crate::specs::Rows::sid_text))]
 pub fn sid(frame: &[u8]) -> [u8; 4]
     ensures { result ≡ sid_text frame.now }
 {

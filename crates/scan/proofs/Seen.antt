@@ -118,8 +118,8 @@ module _ (lim : Limits) (e : End) (sid n : ℕ) (h : n < length e.slots) where
   pub look_down : in_use (get_or e.slots n past).state ≡ true → e.up ≡ false → seen_nothing ≡ look_of lim e sid
   look_down u p = not_made lim e sid bad
     where
-      free-at : every is_free e.slots ≡ true → ⊥
-      free-at q = let f : not (in_use (get_or e.slots n past).state) ≡ true = every_at is_free e.slots past q n h in never (sym (ap not u) ∙ f)
+      free_at : every is_free e.slots ≡ true → ⊥
+      free_at q = let f : not (in_use (get_or e.slots n past).state) ≡ true = every_at is_free e.slots past q n h in never (sym (ap not u) ∙ f)
 
       bad : well_made lim e ≡ true → ⊥
-      bad w = let t : e.up || every is_free e.slots ≡ true = (parts lim e w).2 in free-at (rw p at t)
+      bad w = let t : e.up || every is_free e.slots ≡ true = (parts lim e w).2 in free_at (rw p at t)

@@ -1,5 +1,7 @@
 // One look through the slots, which gives a call all that it asks of the table. It goes from the last slot to the first, so that the lowest
 // free slot is the last one seen.
+#![tactic(auto)]
+
 ghost use Rattle.std.specs.Prelude.{◌≡◌};
 ghost use Rattle.table.specs.Limits.{base};
 ghost use Rattle.scan.specs.Look.{seen_nothing, look_of};
@@ -10,7 +12,7 @@ use sids::sids_differ;
 use table::end::End;
 
 // Whether the end is well made, the slot and the record of a SID, and the lowest free slot.
-#[derive(Drop)]
+#[derive(Clone, Copy)]
 pub struct Look {
     pub made: bool,
     pub slot: usize,

@@ -15,6 +15,7 @@ use wire::header::Header;
 use wire::kind::Kind;
 
 // 5, 6, 7, 9, for n bytes of payload and so much room.
+#[tactic(auto, unfolding(cases::specs::Cases::first))]
 fn session_number(x: Session, n: usize, room: usize) -> u8
     ensures { result ≡ first (send_cases base x n room) }
 {
@@ -36,6 +37,7 @@ fn session_number(x: Session, n: usize, room: usize) -> u8
 
 // Send's number, of what was seen of the end, whether it is up, the payload's length n and the room in the packet buffer: 12, 1, 4, then the
 // session's; 0 if it is done.
+#[tactic(auto, using(calling::proofs::Looked::found))]
 pub fn send_number(l: Look, up: bool, n: usize, room: usize) -> u8
     ensures { result ≡ first (seen_cases l up ++ send_cases base l.session n room) }
 {

@@ -1,4 +1,6 @@
 // Send: a payload goes out as a DATA packet.
+#![tactic(auto)]
+
 ghost use Rattle.std.specs.Prelude.{◌≡◌};
 ghost use Rattle.buffer.specs.Onto.{Front};
 ghost use Rattle.send.specs.Send.{send_done, send_refused, SendPromise};
@@ -12,7 +14,7 @@ use wire::header::Header;
 pub mod decide;
 
 // What send answers. After a refusal length is 0.
-#[derive(Drop)]
+#[derive(Clone, Copy)]
 pub struct Sent {
     // 0, or the number of the refusal: 12, 1, 4, 5, 6, 7, 9.
     pub number: u8,

@@ -19,6 +19,7 @@ impl Session {
     }
 
     // Whether a read emits an ACK: in ESTABLISHED, where the new G is 2 or more past L, modulo 2^32.
+    #[tactic(auto, unfolding(crate::specs::Notice::due))]
     pub fn due(self) -> bool
         ensures { result ≡ due self }
     {

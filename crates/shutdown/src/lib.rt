@@ -1,4 +1,6 @@
 // Shutdown: the end is down.
+#![tactic(auto)]
+
 ghost use Rattle.std.specs.Prelude.{◌≡◌};
 ghost use Rattle.cases.specs.Cases.{first};
 ghost use Rattle.shutdown.specs.Shutdown.{shutdown_cases, shutdown_answer, ShutdownPromise};
@@ -8,7 +10,7 @@ use scan::scan;
 use table::end::End;
 
 // What shutdown answers.
-#[derive(Drop)]
+#[derive(Clone, Copy)]
 pub struct Stopped {
     // 0, or the number of the refusal: 12, 1.
     pub number: u8,
@@ -25,6 +27,7 @@ impl Stopped {
 }
 
 // Shutdown's number: 12 not well made, 1 down already; 0 if it is done.
+#[tactic(auto, unfolding(cases::specs::Cases::first))]
 pub fn shutdown_number(made: bool, up: bool) -> u8
     ensures { result ≡ first (shutdown_cases made up) }
 {

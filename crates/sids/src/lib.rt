@@ -1,4 +1,6 @@
 // SIDs held against each other: the look that scan takes where two may be the same.
+#![tactic(auto)]
+
 ghost use Rattle.std.specs.Prelude.{◌≡◌};
 ghost use Rattle.table.specs.Well.{sids_differ};
 

@@ -18,7 +18,7 @@ use Rattle.open.proofs.Emitted.{open_counts}
 use Rattle.send.proofs.Emitted.{send_counts}
 use Rattle.read.proofs.Emitted.{read_counts}
 use Rattle.close.proofs.Emitted.{close_counts}
-use Rattle.take.proofs.Used.{used-counts}
+use Rattle.take.proofs.Used.{used_counts}
 
 module _ {e : End} where
   pub open_length : {lent exit : List ℕ} {r : Opened} → OpenPromise e lent r exit → r.length ≤ length exit
@@ -28,14 +28,14 @@ module _ {e : End} where
   send_length q = (send_counts q).0
 
   module _ {sid : ℕ} {storage lent lentAck exit exitAck : List ℕ} {r : Got} (q : ReadPromise e sid storage lent lentAck r exit exitAck) where
-    pub read-payload-length : r.payload_length ≤ length exit
-    read-payload-length = (read_counts q).0.0
+    pub read_payload_length : r.payload_length ≤ length exit
+    read_payload_length = (read_counts q).0.0
 
-    pub read-ack-length : r.ack_length ≤ length exitAck
-    read-ack-length = (read_counts q).1.0
+    pub read_ack_length : r.ack_length ≤ length exitAck
+    read_ack_length = (read_counts q).1.0
 
   pub close_length : {sid : ℕ} {lent exit : List ℕ} {r : Closed} → ClosePromise e sid lent r exit → r.length ≤ length exit
   close_length q = (close_counts q).0
 
   pub take_used : {bytes lent exit : List ℕ} {r : Taken} → TakePromise e bytes lent r exit → r.used ≤ length bytes
-  take_used q = used-counts q
+  take_used q = used_counts q

@@ -8,6 +8,8 @@
 // Packets and payloads go into the front of buffers that the caller lends, and the answer has their lengths. What a call emits goes to the
 // transport whole, and what comes from the transport goes to `take`, which says how many bytes it used. Payloads that wait to be read lie in a
 // storage of STORAGE bytes that the caller keeps and lends to `take` and `read`.
+#![tactic(auto)]
+
 pub use cases::number;
 pub use close::{Closed, close};
 pub use open::{Opened, open};

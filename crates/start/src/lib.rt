@@ -1,11 +1,13 @@
 // Start: an end that is up, all slots free.
+#![tactic(auto)]
+
 ghost use Rattle.start.specs.Start.{StartPromise};
 
 use cases::number;
 use table::end::{End, Role};
 
 // What start answers.
-#[derive(Drop)]
+#[derive(Clone, Copy)]
 pub struct Started {
     // Always 0.
     pub number: u8,

@@ -5,7 +5,7 @@ ghost use Rattle.steady.specs.Steady.{answer_of};
 use table::end::End;
 
 // The number and the values of the last answer, in its order; the sum of all numbers and lengths; the record.
-#[derive(Drop)]
+#[derive(Clone, Copy)]
 pub struct Answer {
     pub number: u8,
     pub values: [u64; 4],

@@ -1,4 +1,6 @@
 // One call many times over, with the end in one local: what bench/ counts. The C beside it has the same three loops.
+#![tactic(auto)]
+
 pub mod answer;
 
 ghost use Rattle.std.specs.Prelude.{◌≡◌, ◌≤◌};

@@ -30,5 +30,5 @@ used e bytes storage = by (take_number base e bytes storage) (zero_whole e bytes
     by : (n : ℕ) → (n ≡ 0 → (read_header bytes).length ≤ length bytes) → (take_answer n bytes e).used ≤ length bytes
     by n w = cases n (eqb n 0) (ltb n 20) (λ p. w (eqb-true n 0 p))
 
-pub used-counts : {e : End} {bytes lent exit : List ℕ} {r : Taken} → TakePromise e bytes lent r exit → r.used ≤ length bytes
-used-counts {e} {bytes} {lent} q = subst (λ (a : Taken). a.used ≤ length bytes) (sym q.answer) (used e bytes (length lent))
+pub used_counts : {e : End} {bytes lent exit : List ℕ} {r : Taken} → TakePromise e bytes lent r exit → r.used ≤ length bytes
+used_counts {e} {bytes} {lent} q = subst (λ (a : Taken). a.used ≤ length bytes) (sym q.answer) (used e bytes (length lent))

@@ -1,4 +1,6 @@
 // Take: one packet from the front of the bytes given. Crate judge says what is to be done with it; here it is done.
+#![tactic(auto)]
+
 ghost use Rattle.std.specs.Prelude.{◌≡◌, ◌+◌, ◌-◌, ◌≤◌, length};
 ghost use Rattle.wire.specs.Packet.{header_length};
 ghost use Rattle.session.specs.Record.{payload_limit};
@@ -18,7 +20,7 @@ use table::storage;
 use wire::header::Header;
 
 // What take answers. After a refusal or a fault used, kind and sid are 0.
-#[derive(Drop)]
+#[derive(Clone, Copy)]
 pub struct Taken {
     // 0; a refusal: 12, 1, 9, 10; or a fault, 20 to 30.
     pub number: u8,
@@ -36,7 +38,7 @@ pub struct Taken {
 
 // What an answer gives beside the end. It is apart from `Taken` so that an end is put into an answer at one place: a function that is given the
 // end and answers with it costs a copy of the whole record (docs/SPEED.md).
-#[derive(Drop)]
+#[derive(Clone, Copy)]
 struct Values {
     number: u8,
     used: usize,

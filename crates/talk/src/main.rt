@@ -1,17 +1,24 @@
 // What a newcomer copies: a client and a server in one process, two sessions, rows both ways, and an orderly close of both sessions. A packet goes
 // from the buffer of the end that emits it to `take` of the other end; between two machines a transport stands there.
+#![tactic(auto)]
+
 mod say;
 mod step;
 
+use say::Streams;
 use smp::Role;
 use step::Talk;
 
-fn main() {
+fn main(rt: HostRuntime) {
+    let to = Streams {
+        output: rt.stdout(),
+        error: rt.stderr(),
+    };
     // The payloads that wait to be read lie here, a storage for each end.
     let mut at_client = [0u8; smp::STORAGE];
     let mut at_server = [0u8; smp::STORAGE];
     // The client calls first. Each step needs the talk as the step before left it.
-    let mut t = Talk::start(Role::Client, Role::Server);
+    let mut t = Talk::start(to, Role::Client, Role::Server);
     // A session for each wagon: SIDs 0 and 1, the smallest that aren't held.
     t = step::open(t, &mut at_server);
     t = step::open(t, &mut at_server);

@@ -1,55 +1,62 @@
 // Lines on standard output.
-use libc::{STDERR_FILENO, STDOUT_FILENO};
 use smp::{End, Role};
+use std::io::{Result, Stderr, Stdout, Write};
+
+// Where lines go: standard output, and standard error for what went wrong.
+#[derive(Clone, Copy)]
+pub struct Streams {
+    pub output: Stdout,
+    pub error: Stderr,
+}
 
 // Where standard output takes no more, standard error is told.
-fn told(went: bool) {
-    if !went {
-        io::write_all(STDERR_FILENO, b"talk: standard output took no more\n");
+fn told(mut to: Streams, went: Result<()>) {
+    if went.is_err() {
+        let _ = to.error.write_all(b"talk: standard output took no more\n");
     }
 }
 
-fn text(t: &[u8]) {
-    told(io::write_all(STDOUT_FILENO, t));
+fn text(mut to: Streams, t: &[u8]) {
+    told(to, to.output.write_all(t));
 }
 
-fn number(n: u16) {
-    told(io::print_decimal(STDOUT_FILENO, n as u64));
+fn number(mut to: Streams, n: u16) {
+    told(to, write!(to.output, "{n}"));
 }
 
 // The end's name.
-fn name(e: End) {
+fn name(to: Streams, e: End) {
     let role = e.role;
     match role {
-        Role::Client => text(b"client"),
-        Role::Server => text(b"server"),
+        Role::Client => text(to, b"client"),
+        Role::Server => text(to, b"server"),
     }
 }
 
 // What an end did with a session.
-pub(crate) fn session(e: End, did: &[u8], sid: u16) {
-    name(e);
-    text(did);
-    number(sid);
-    text(b"\n");
+pub(crate) fn session(to: Streams, e: End, did: &[u8], sid: u16) {
+    name(to, e);
+    text(to, did);
+    number(to, sid);
+    text(to, b"\n");
 }
 
 // A row that an end read.
-pub(crate) fn row(e: End, row: &[u8], sid: u16) {
-    name(e);
-    text(b" read ");
-    text(row);
-    text(b" from session ");
-    number(sid);
-    text(b"\n");
+pub(crate) fn row(to: Streams, e: End, row: &[u8], sid: u16) {
+    name(to, e);
+    text(to, b" read ");
+    text(to, row);
+    text(to, b" from session ");
+    number(to, sid);
+    text(to, b"\n");
 }
 
 // A call that didn't answer 0.
-pub(crate) fn refused(e: End, call: &[u8], n: u8) {
-    name(e);
-    text(b": ");
-    text(call);
-    text(b" answered ");
-    number(n as u16);
-    text(b"\n");
+pub(crate) fn refused(to: Streams, e: End, call: &[u8], n: u8) {
+    name(to, e);
+    text(to, b": ");
+    text(to, call);
+    text(to, b" answered ");
+    number(to, n as u16);
+    text(to, b"\n");
 }

@@ -6,6 +6,7 @@ ghost use Rattle.text.specs.Decimal.{decimal};
 use crate::digit;
 
 // Writes the digits of n into `out` from place `at` on, the higher ones first, and answers the place behind them.
+#[tactic(auto, using(crate::proofs::Decimals::length_low, crate::proofs::Decimals::length_high, crate::proofs::Decimals::put_low, crate::proofs::Decimals::put_high))]
 fn put_digits(out: &mut [u8], at: usize, n: u32) -> usize
     requires { at + length (decimal n) ≤ length out.old }
     ensures out_after { out.new ≡ paste out.old at (decimal n) (length (decimal n)) }

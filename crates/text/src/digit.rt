@@ -3,6 +3,7 @@ ghost use Rattle.std.specs.Prelude.{◌≡◌, ◌<◌};
 ghost use Rattle.text.specs.Hex.{digit_value, glyph};
 
 // The value of a lower-case hexadecimal digit, and 16 for another character.
+#[tactic(auto, unfolding(crate::specs::Hex::digit_value))]
 pub fn value(c: u8) -> u8
     ensures { result ≡ digit_value c }
 {

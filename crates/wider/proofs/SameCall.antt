@@ -54,13 +54,13 @@ module _ (lim : Limits) (low : window ≤ lim.window) (p : Party) (w : well_made
     same_number : (cs : List Case) → first (calling lim e sid ++ cs) ≡ first (calling (narrow lim) e sid ++ cs)
     same_number cs = ap (λ (b : Bool). first (called b e.up (holds sid e.slots) ++ cs)) same_made
 
-    send-number : (n room : ℕ) → send_number lim e sid n room ≡ send_number (narrow lim) e sid n room
+    send_number_lem : (n room : ℕ) → send_number lim e sid n room ≡ send_number (narrow lim) e sid n room
     unfolding send_number
-    send-number n room = same_number (send_cases lim (session_of sid e.slots) n room)
+    send_number_lem n room = same_number (send_cases lim (session_of sid e.slots) n room)
 
-    same-send : (payload : List ℕ) (room : ℕ) → did lim (Send sid payload room) p ≡ did (narrow lim) (Send sid payload room) p
+    same_send : (payload : List ℕ) (room : ℕ) → did lim (Send sid payload room) p ≡ did (narrow lim) (Send sid payload room) p
     unfolding send_of send_packet
-    same-send payload room = rw (send-number (length payload) room)
+    same_send payload room = rw (send_number_lem (length payload) room)
 
     read_number_lem : (room ack n : ℕ) → read_number lim e sid room ack n ≡ read_number (narrow lim) e sid room ack n
     unfolding read_number
@@ -70,13 +70,13 @@ module _ (lim : Limits) (low : window ≤ lim.window) (p : Party) (w : well_made
     unfolding read_of read_payload read_ack
     same_read room ack lent = rw (read_number_lem room ack (length (take lent p.storage)))
 
-    close-number : (room : ℕ) → close_number lim e sid room ≡ close_number (narrow lim) e sid room
+    close_number_lem : (room : ℕ) → close_number lim e sid room ≡ close_number (narrow lim) e sid room
     unfolding close_number
-    close-number room = same_number (close_cases (session_of sid e.slots) room)
+    close_number_lem room = same_number (close_cases (session_of sid e.slots) room)
 
-    same-close : (room : ℕ) → did lim (Close sid room) p ≡ did (narrow lim) (Close sid room) p
+    same_close : (room : ℕ) → did lim (Close sid room) p ≡ did (narrow lim) (Close sid room) p
     unfolding close_of close_packet
-    same-close room = rw (close-number room)
+    same_close room = rw (close_number_lem room)
 
   module _ (given lent : ℕ) where
     abbrev bytes : List ℕ
@@ -91,9 +91,9 @@ module _ (lim : Limits) (low : window ≤ lim.window) (p : Party) (w : well_made
     abbrev number : Limits → ℕ
     number l = take_number l e bytes (length storage)
 
-    same-take-number : Unwidened (number (narrow lim)) → number lim ≡ number (narrow lim)
+    same_take_number : Unwidened (number (narrow lim)) → number lim ≡ number (narrow lim)
     unfolding take_number
-    same-take-number u =
+    same_take_number u =
         let x = session_of h.sid e.slots in
         let held = holds h.sid e.slots in
         let short = short_storage lim e (length storage) in
@@ -112,9 +112,9 @@ module _ (lim : Limits) (low : window ≤ lim.window) (p : Party) (w : well_made
     same_kept cell.Free i = refl
     same_kept cell.Fault i = refl
 
-    same-storage : (f : Flags) → taken_storage lim f e h bytes storage ≡ taken_storage (narrow lim) f e h bytes storage
-    same-storage (One k) = same_kept (cell_of (session_of h.sid e.slots).state k) (slot_of h.sid e.slots)
-    same-storage Wrong = refl
+    same_storage : (f : Flags) → taken_storage lim f e h bytes storage ≡ taken_storage (narrow lim) f e h bytes storage
+    same_storage (One k) = same_kept (cell_of (session_of h.sid e.slots).state k) (slot_of h.sid e.slots)
+    same_storage Wrong = refl
 
     -- the answer and the storage from the number
     abbrev result : ℕ → List ℕ → Done
@@ -125,9 +125,9 @@ module _ (lim : Limits) (low : window ≤ lim.window) (p : Party) (w : well_made
           storage = done n stored storage ++ drop lent p.storage;
         }
 
-    same-take : Unwidened (number (narrow lim)) → did lim (Take given lent) p ≡ did (narrow lim) (Take given lent) p
+    same_take : Unwidened (number (narrow lim)) → did lim (Take given lent) p ≡ did (narrow lim) (Take given lent) p
     unfolding take_of take_storage
-    same-take u = ap₂ result (same-take-number u) (same-storage (flags_of h.flags))
+    same_take u = ap₂ result (same_take_number u) (same_storage (flags_of h.flags))
 
   -- take's number is its reply's
   reply_number : (given lent : ℕ) → (did (narrow lim) (Take given lent) p).reply.number ≡ number given lent (narrow lim)
@@ -136,10 +136,10 @@ module _ (lim : Limits) (low : window ≤ lim.window) (p : Party) (w : well_made
 
   pub same_call : (c : Call) → Unwidened (did (narrow lim) c p).reply.number → did lim c p ≡ did (narrow lim) c p
   same_call (Open room) u = same_open room
-  same_call (Send sid payload room) u = same-send sid payload room
+  same_call (Send sid payload room) u = same_send sid payload room
   same_call (Read sid room ack lent) u = same_read sid room ack lent
-  same_call (Close sid room) u = same-close sid room
-  same_call (Take given lent) u = same-take given lent (subst Unwidened (reply_number given lent) u)
+  same_call (Close sid room) u = same_close sid room
+  same_call (Take given lent) u = same_take given lent (subst Unwidened (reply_number given lent) u)
 
   pub same_shutdown : shutdown_of lim p.end ≡ shutdown_of (narrow lim) p.end
   unfolding shutdown_of shutdown_number

@@ -8,7 +8,7 @@ use crate::{after_first, is, is_bytes, is_role, limits, number_at, numbers, word
 use cases::both;
 
 // The lines by their names, and one that calls nothing.
-#[derive(Drop)]
+#[derive(Clone, Copy)]
 pub enum Form {
     Start,
     Open,

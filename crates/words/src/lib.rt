@@ -1,5 +1,7 @@
 // The words of a line of the program `calls`, and what they spell. Words are what stands between spaces: a leading, double or trailing space makes
 // an empty word, which is no name, no number and no bytes.
+#![tactic(auto)]
+
 pub mod forms;
 pub mod held;
 pub mod limits;

@@ -71,45 +71,45 @@ module _ (lim : Limits) (e : End) (g : well_made lim e ≡ true) (u : e.up ≡ t
   -- ---- no slot has the SID
 
   module _ (h : holds sid e.slots ≡ false) where
-    send-none : (n room : ℕ) → send_number lim e sid n room ≡ 4
+    send_none : (n room : ℕ) → send_number lim e sid n room ≡ 4
     unfolding send_number
-    send-none n room = calling_none h (send_cases lim (session_of sid e.slots) n room)
+    send_none n room = calling_none h (send_cases lim (session_of sid e.slots) n room)
 
-    pub send-none-answer : (payload : List ℕ) (room : ℕ) → send_of lim e sid payload room ≡ send_refused 4 e
+    pub send_none_answer : (payload : List ℕ) (room : ℕ) → send_of lim e sid payload room ≡ send_refused 4 e
     unfolding send_of
-    send-none-answer payload room = rw (send-none (length payload) room)
+    send_none_answer payload room = rw (send_none (length payload) room)
 
-    pub send-none-packet : (payload : List ℕ) (room : ℕ) → send_packet lim e sid payload room ≡ []
+    pub send_none_packet : (payload : List ℕ) (room : ℕ) → send_packet lim e sid payload room ≡ []
     unfolding send_packet
-    send-none-packet payload room = rw (send-none (length payload) room)
+    send_none_packet payload room = rw (send_none (length payload) room)
 
     read_none : (room ack st : ℕ) → read_number lim e sid room ack st ≡ 4
     unfolding read_number
     read_none room ack st = calling_none h (read_cases (session_of sid e.slots) room ack (short_storage lim e st))
 
-    pub read-none-answer : (room ack st : ℕ) → read_of lim e sid room ack st ≡ read_refused 4 e
+    pub read_none_answer : (room ack st : ℕ) → read_of lim e sid room ack st ≡ read_refused 4 e
     unfolding read_of
-    read-none-answer room ack st = rw (read_none room ack st)
+    read_none_answer room ack st = rw (read_none room ack st)
 
-    pub read-none-payload : (room ack : ℕ) (storage : List ℕ) → read_payload lim e sid room ack storage ≡ []
+    pub read_none_payload : (room ack : ℕ) (storage : List ℕ) → read_payload lim e sid room ack storage ≡ []
     unfolding read_payload
-    read-none-payload room ack storage = rw (read_none room ack (length storage))
+    read_none_payload room ack storage = rw (read_none room ack (length storage))
 
-    pub read-none-ack : (room ack st : ℕ) → read_ack lim e sid room ack st ≡ []
+    pub read_none_ack : (room ack st : ℕ) → read_ack lim e sid room ack st ≡ []
     unfolding read_ack
-    read-none-ack room ack st = rw (read_none room ack st)
+    read_none_ack room ack st = rw (read_none room ack st)
 
-    close-none : (room : ℕ) → close_number lim e sid room ≡ 4
+    close_none : (room : ℕ) → close_number lim e sid room ≡ 4
     unfolding close_number
-    close-none room = calling_none h (close_cases (session_of sid e.slots) room)
+    close_none room = calling_none h (close_cases (session_of sid e.slots) room)
 
-    pub close-none-answer : (room : ℕ) → close_of lim e sid room ≡ close_refused 4 e
+    pub close_none_answer : (room : ℕ) → close_of lim e sid room ≡ close_refused 4 e
     unfolding close_of
-    close-none-answer room = rw (close-none room)
+    close_none_answer room = rw (close_none room)
 
-    pub close-none-packet : (room : ℕ) → close_packet lim e sid room ≡ []
+    pub close_none_packet : (room : ℕ) → close_packet lim e sid room ≡ []
     unfolding close_packet
-    close-none-packet room = rw (close-none room)
+    close_none_packet room = rw (close_none room)
 
   -- ---- slot i holds it
 
@@ -121,26 +121,26 @@ module _ (lim : Limits) (e : End) (g : well_made lim e ≡ true) (u : e.up ≡ t
     number_at : (cs : Session → List Case) → first (calling lim e sid ++ cs (session_of sid e.slots)) ≡ first (cs (get_or e.slots i free))
     number_at cs = calling_held (at_holds a) (cs (session_of sid e.slots)) ∙ ap (λ (y : Session). first (cs y)) (at_session a)
 
-    send-number : (n room : ℕ) → send_number lim e sid n room ≡ first (send_cases lim (get_or e.slots i free) n room)
+    send_number_lem : (n room : ℕ) → send_number lim e sid n room ≡ first (send_cases lim (get_or e.slots i free) n room)
     unfolding send_number
-    send-number n room = number_at (λ (y : Session). send_cases lim y n room)
+    send_number_lem n room = number_at (λ (y : Session). send_cases lim y n room)
 
-    pub send-answer : (payload : List ℕ) (room : ℕ) → send_of lim e sid payload room
+    pub send_answer : (payload : List ℕ) (room : ℕ) → send_of lim e sid payload room
         ≡ done (first (send_cases lim (get_or e.slots i free) (length payload) room))
         (send_done (header_length + length payload) (put_of i (sent_on (get_or e.slots i free)) e))
         (send_refused (first (send_cases lim (get_or e.slots i free) (length payload) room)) e)
     unfolding send_of
-    send-answer payload room =
+    send_answer payload room =
         let m = first (send_cases lim x (length payload) room) in
-        ap (λ (n : ℕ). done n (send_done (header_length + length payload) (changed_of sid sent_on e)) (send_refused n e)) (send-number (length payload) room)
+        ap (λ (n : ℕ). done n (send_done (header_length + length payload) (changed_of sid sent_on e)) (send_refused n e)) (send_number_lem (length payload) room)
         ∙ ap (λ (d : End). done m (send_done (header_length + length payload) d) (send_refused m e)) (at_end a sent_on)
 
-    pub send-packet : (payload : List ℕ) (room : ℕ) → send_packet lim e sid payload room
+    pub send_packet_lem : (payload : List ℕ) (room : ℕ) → send_packet lim e sid payload room
         ≡ done (first (send_cases lim (get_or e.slots i free) (length payload) room))
         (packet_bytes (data_header (get_or e.slots i free) (length payload)) payload) []
     unfolding send_packet
-    send-packet payload room =
-        ap (λ (n : ℕ). done n (packet_bytes (data_header (session_of sid e.slots) (length payload)) payload) []) (send-number (length payload) room)
+    send_packet_lem payload room =
+        ap (λ (n : ℕ). done n (packet_bytes (data_header (session_of sid e.slots) (length payload)) payload) []) (send_number_lem (length payload) room)
         ∙ ap (λ (y : Session). done (first (send_cases lim x (length payload) room)) (packet_bytes (data_header y (length payload)) payload) []) (at_session a)
 
     read_number_lem : (room ack st : ℕ) → read_number lim e sid room ack st ≡ first (read_cases (get_or e.slots i free) room ack (short_storage lim e st))
@@ -159,39 +159,39 @@ module _ (lim : Limits) (e : End) (g : well_made lim e ≡ true) (u : e.up ≡ t
         ∙ ap (λ (z : Session). done m (read_done (oldest_length z) (length (ack_on z)) (changed_of sid read_on e)) (read_refused m e)) (at_session a)
         ∙ ap (λ (d : End). done m (read_done (oldest_length x) (length (ack_on x)) d) (read_refused m e)) (at_end a read_on)
 
-    pub read-payload : (room ack : ℕ) (storage : List ℕ) → read_payload lim e sid room ack storage
+    pub read_payload_lem : (room ack : ℕ) (storage : List ℕ) → read_payload lim e sid room ack storage
         ≡ done (first (read_cases (get_or e.slots i free) room ack (short_storage lim e (length storage)))) (oldest_in lim i (get_or e.slots i free) storage) []
     unfolding read_payload
-    read-payload room ack storage =
+    read_payload_lem room ack storage =
         let m = first (read_cases x room ack (short_storage lim e (length storage))) in
         ap (λ (n : ℕ). done n (oldest_in lim (slot_of sid e.slots) (session_of sid e.slots) storage) []) (read_number_lem room ack (length storage))
         ∙ ap (λ (j : ℕ). done m (oldest_in lim j (session_of sid e.slots) storage) []) (at_slot a)
         ∙ ap (λ (z : Session). done m (oldest_in lim i z storage) []) (at_session a)
 
-    pub read-ack : (room ack st : ℕ) → read_ack lim e sid room ack st
+    pub read_ack_lem : (room ack st : ℕ) → read_ack lim e sid room ack st
         ≡ done (first (read_cases (get_or e.slots i free) room ack (short_storage lim e st))) (ack_on (get_or e.slots i free)) []
     unfolding read_ack
-    read-ack room ack st =
+    read_ack_lem room ack st =
         ap (λ (n : ℕ). done n (ack_on (session_of sid e.slots)) []) (read_number_lem room ack st)
         ∙ ap (λ (z : Session). done (first (read_cases x room ack (short_storage lim e st))) (ack_on z) []) (at_session a)
 
-    close-number : (room : ℕ) → close_number lim e sid room ≡ first (close_cases (get_or e.slots i free) room)
+    close_number_lem : (room : ℕ) → close_number lim e sid room ≡ first (close_cases (get_or e.slots i free) room)
     unfolding close_number
-    close-number room = number_at (λ (y : Session). close_cases y room)
+    close_number_lem room = number_at (λ (y : Session). close_cases y room)
 
-    pub close-answer : (room : ℕ) → close_of lim e sid room
+    pub close_answer_lem : (room : ℕ) → close_of lim e sid room
         ≡ done (first (close_cases (get_or e.slots i free) room))
         (close_done (put_of i (closed_on (get_or e.slots i free)) e))
         (close_refused (first (close_cases (get_or e.slots i free) room)) e)
     unfolding close_of
-    close-answer room =
+    close_answer_lem room =
         let m = first (close_cases x room) in
-        ap (λ (n : ℕ). done n (close_done (changed_of sid closed_on e)) (close_refused n e)) (close-number room)
+        ap (λ (n : ℕ). done n (close_done (changed_of sid closed_on e)) (close_refused n e)) (close_number_lem room)
         ∙ ap (λ (d : End). done m (close_done d) (close_refused m e)) (at_end a closed_on)
 
-    pub close-packet : (room : ℕ)
+    pub close_packet_lem : (room : ℕ)
         → close_packet lim e sid room ≡ done (first (close_cases (get_or e.slots i free) room)) (header_bytes (fin_header (get_or e.slots i free))) []
     unfolding close_packet
-    close-packet room =
-        ap (λ (n : ℕ). done n (header_bytes (fin_header (session_of sid e.slots))) []) (close-number room)
+    close_packet_lem room =
+        ap (λ (n : ℕ). done n (header_bytes (fin_header (session_of sid e.slots))) []) (close_number_lem room)
         ∙ ap (λ (z : Session). done (first (close_cases x room)) (header_bytes (fin_header z)) []) (at_session a)

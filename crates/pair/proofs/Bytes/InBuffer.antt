@@ -31,23 +31,23 @@ module _ {e : End} where
       (open_long base e (length lent) ∙ ap (λ (a : Opened). a.length) (sym q.answer))
 
   module _ {sid : ℕ} where
-    pub send-front : {payload lent exit : List ℕ} {r : Sent} → SendPromise e sid payload lent r exit
+    pub send_front : {payload lent exit : List ℕ} {r : Sent} → SendPromise e sid payload lent r exit
         → send_packet base e sid payload (length lent) ≡ take r.length exit
-    send-front {payload} {lent} q =
+    send_front {payload} {lent} q =
         front (send_packet base e sid payload (length lent)) lent q.packet
         (send_long base e sid payload (length lent) ∙ ap (λ (a : Sent). a.length) (sym q.answer))
 
-    pub close-front : {lent exit : List ℕ} {r : Closed} → ClosePromise e sid lent r exit → close_packet base e sid (length lent) ≡ take r.length exit
-    close-front {lent} q =
+    pub close_front : {lent exit : List ℕ} {r : Closed} → ClosePromise e sid lent r exit → close_packet base e sid (length lent) ≡ take r.length exit
+    close_front {lent} q =
         front (close_packet base e sid (length lent)) lent q.packet (close_long base e sid (length lent) ∙ ap (λ (a : Closed). a.length) (sym q.answer))
 
     module _ {storage lent lentAck exit exitAck : List ℕ} {r : Got} (q : ReadPromise e sid storage lent lentAck r exit exitAck) where
-      pub read-front : read_payload base e sid (length lent) (length lentAck) storage ≡ take r.payload_length exit
-      read-front =
+      pub read_front : read_payload base e sid (length lent) (length lentAck) storage ≡ take r.payload_length exit
+      read_front =
           front (read_payload base e sid (length lent) (length lentAck) storage) lent q.payload
           (read_long base e sid (length lent) (length lentAck) storage ∙ ap (λ (a : Got). a.payload_length) (sym q.answer))
 
-      pub ack-front : read_ack base e sid (length lent) (length lentAck) (length storage) ≡ take r.ack_length exitAck
-      ack-front =
+      pub ack_front : read_ack base e sid (length lent) (length lentAck) (length storage) ≡ take r.ack_length exitAck
+      ack_front =
           front (read_ack base e sid (length lent) (length lentAck) (length storage)) lentAck q.ack
           (ack_long base e sid (length lent) (length lentAck) storage ∙ ap (λ (a : Got). a.ack_length) (sym q.answer))

@@ -26,7 +26,7 @@ use Rattle.judge.specs.Number.{syn_cases, other_cases, take_number}
 use Rattle.take.specs.Take.{taken_on, take_done, take_of, kept, take_storage}
 use Rattle.pair.proofs.Lane.Half.{Packet}
 use Rattle.pair.proofs.Bytes.Encoded.{kind_of, payload_of, header_for, packet_for, syn_for}
-use Rattle.pair.proofs.Bytes.TakeFront.{packet-number, packet-answer, packet-storage, syn-number, syn-answer, syn-storage}
+use Rattle.pair.proofs.Bytes.TakeFront.{packet_number, packet_answer, packet_storage, syn_number, syn_answer, syn_storage}
 
 -- what a packet other than SYN asks of its session
 abbrev pub take_on : Limits → Kind → Session → Header → List Case
@@ -40,29 +40,29 @@ module _ (lim : Limits) (small : header_length + lim.place < 2 ^ 32) (e : End) (
     (p : Packet) (fits : length (payload_of p) ≤ lim.place) (rest : List ℕ) (n : ℕ) (l : length (packet_for sid p) ≤ n) where
   -- slot i holds it
   module _ (i : ℕ) (a : At sid i e.slots) where
-    taken-number : (st : ℕ) → take_number lim e (take n (packet_for sid p ++ rest)) st
+    taken_number : (st : ℕ) → take_number lim e (take n (packet_for sid p ++ rest)) st
         ≡ if (short_storage lim e st) 9 (first (take_on lim (kind_of p) (get_or e.slots i free) (header_for sid p)))
-    taken-number st =
-        packet-number lim small e g u sid low p fits rest n l st
+    taken_number st =
+        packet_number lim small e g u sid low p fits rest n l st
         ∙ ap (λ (b : Bool). if (short_storage lim e st) 9 (first (other_cases lim (kind_of p) b (session_of sid e.slots) (header_for sid p)))) (at_holds a)
         ∙ ap (λ (x : Session). if (short_storage lim e st) 9 (first (other_cases lim (kind_of p) true x (header_for sid p)))) (at_session a)
         ∙ ap (λ (m : ℕ). if (short_storage lim e st) 9 m) (held_cases lim (kind_of p) (get_or e.slots i free) (header_for sid p))
 
     -- the storage is long enough and no case applies
     module _ (clear : first (take_on lim (kind_of p) (get_or e.slots i free) (header_for sid p)) ≡ 0) where
-      taken-zero : (st : ℕ) → short_storage lim e st ≡ false → take_number lim e (take n (packet_for sid p ++ rest)) st ≡ 0
-      taken-zero st s = taken-number st ∙ ap (λ (b : Bool). if b 9 (first (take_on lim (kind_of p) (get_or e.slots i free) (header_for sid p)))) s ∙ clear
+      taken_zero : (st : ℕ) → short_storage lim e st ≡ false → take_number lim e (take n (packet_for sid p ++ rest)) st ≡ 0
+      taken_zero st s = taken_number st ∙ ap (λ (b : Bool). if b 9 (first (take_on lim (kind_of p) (get_or e.slots i free) (header_for sid p)))) s ∙ clear
 
-      pub taken-answer : (st : ℕ) → short_storage lim e st ≡ false → take_of lim e (take n (packet_for sid p ++ rest)) st
+      pub taken_answer_lem : (st : ℕ) → short_storage lim e st ≡ false → take_of lim e (take n (packet_for sid p ++ rest)) st
           ≡ take_done (header_for sid p) (put_of i (taken_on (kind_of p) (header_for sid p) (get_or e.slots i free)) e)
-      taken-answer st s =
-          packet-answer lim small e g u sid low p fits rest n l st (taken-zero st s)
+      taken_answer_lem st s =
+          packet_answer lim small e g u sid low p fits rest n l st (taken_zero st s)
           ∙ ap (take_done (header_for sid p)) (at_end a (taken_on (kind_of p) (header_for sid p)))
 
-      pub taken-storage : (lent : List ℕ) → short_storage lim e (length lent) ≡ false → take_storage lim e (take n (packet_for sid p ++ rest)) lent
+      pub taken_storage_lem : (lent : List ℕ) → short_storage lim e (length lent) ≡ false → take_storage lim e (take n (packet_for sid p ++ rest)) lent
           ≡ kept lim (cell_of (get_or e.slots i free).state (kind_of p)) i (header_for sid p) (packet_for sid p) lent
-      taken-storage lent s =
-          packet-storage lim small e g u sid low p fits rest n l lent (taken-zero (length lent) s)
+      taken_storage_lem lent s =
+          packet_storage lim small e g u sid low p fits rest n l lent (taken_zero (length lent) s)
           ∙ ap (λ (x : Session). kept lim (cell_of x.state (kind_of p)) (slot_of sid e.slots) (header_for sid p) (packet_for sid p) lent) (at_session a)
           ∙ ap (λ (j : ℕ). kept lim (cell_of (get_or e.slots i free).state (kind_of p)) j (header_for sid p) (packet_for sid p) lent) (at_slot a)
 
@@ -76,7 +76,7 @@ module _ (lim : Limits) (small : header_length + lim.place < 2 ^ 32) (e : End) (
     (room : full e.slots ≡ false) where
   begun_number : (st : ℕ) → take_number lim e (take n (syn_for sid ++ rest)) st ≡ if (short_storage lim e st) 9 0
   begun_number st =
-      syn-number lim small e g u sid low rest n l st
+      syn_number lim small e g u sid low rest n l st
       ∙ ap (λ (ρ : Role). if (short_storage lim e st) 9 (first (syn_cases lim ρ (holds sid e.slots) (full e.slots) (syn_header sid)))) server
       ∙ ap (λ (b : Bool). if (short_storage lim e st) 9 (first (syn_cases lim Server b (full e.slots) (syn_header sid)))) new
       ∙ ap (λ (b : Bool). if (short_storage lim e st) 9 (first (syn_cases lim Server false b (syn_header sid)))) room
@@ -87,7 +87,7 @@ module _ (lim : Limits) (small : header_length + lim.place < 2 ^ 32) (e : End) (
 
   pub begun_answer : (st : ℕ) → short_storage lim e st ≡ false
       → take_of lim e (take n (syn_for sid ++ rest)) st ≡ take_done (syn_header sid) (put_of (lowest_free e.slots) (fresh_of sid) e)
-  begun_answer st s = syn-answer lim small e g u sid low rest n l st (begun_zero st s)
+  begun_answer st s = syn_answer lim small e g u sid low rest n l st (begun_zero st s)
 
   pub begun_storage : (lent : List ℕ) → short_storage lim e (length lent) ≡ false → take_storage lim e (take n (syn_for sid ++ rest)) lent ≡ lent
-  begun_storage lent s = syn-storage lim small e g u sid low rest n l lent (begun_zero (length lent) s)
+  begun_storage lent s = syn_storage lim small e g u sid low rest n l lent (begun_zero (length lent) s)

@@ -34,7 +34,7 @@ use Rattle.take.specs.Take.{taken_on, taken_end, take_done, take_refused, take_o
 use Rattle.take.proofs.SynKeeps.{syn_keeps}
 use Rattle.pair.proofs.Lane.Half.{Packet, dat, ack, fin}
 use Rattle.pair.proofs.Bytes.Encoded.{kind_of, payload_of, header_for, packet_for, syn_for, packet_whole, syn_whole, syn_bytes, packet_size, syn_size}
-use Rattle.pair.proofs.Bytes.TakeGate.{number_under, number_cut, number-whole, answer-refused, storage_refused, answer-done, storage-done}
+use Rattle.pair.proofs.Bytes.TakeGate.{number_under, number_cut, number_whole, answer_refused, storage_refused, answer_done, storage_done}
 
 -- ---- 9 or 10: used 0, kind 0, SID 0, the end and the storage as they were
 
@@ -44,7 +44,7 @@ waits_number false = (omega arith, omega arith)
 
 pub waits_answer : (lim : Limits) (e : End) (bytes : List ℕ) (st : ℕ) (short : Bool) → take_number lim e bytes st ≡ if short 9 10
     → take_of lim e bytes st ≡ take_refused (if short 9 10) (missing bytes) e
-waits_answer lim e bytes st short n = answer-refused lim e bytes st (if short 9 10) n (waits_number short).0 (waits_number short).1
+waits_answer lim e bytes st short n = answer_refused lim e bytes st (if short 9 10) n (waits_number short).0 (waits_number short).1
 
 pub waits_storage : (lim : Limits) (e : End) (bytes lent : List ℕ) (short : Bool) → take_number lim e bytes (length lent) ≡ if short 9 10
     → take_storage lim e bytes lent ≡ lent
@@ -87,8 +87,8 @@ module _ (lim : Limits) (e : End) (g : well_made lim e ≡ true) (u : e.up ≡ t
     abbrev bytes : List ℕ
     bytes = take n (packet_bytes h v ++ rest)
 
-    cut-number : n < h.length → (st : ℕ) → take_number lim e (take n (packet_bytes h v ++ rest)) st ≡ if (short_storage lim e st) 9 10
-    cut-number c st = by (dec_lt n header_length)
+    cut_number : n < h.length → (st : ℕ) → take_number lim e (take n (packet_bytes h v ++ rest)) st ≡ if (short_storage lim e st) 9 10
+    cut_number c st = by (dec_lt n header_length)
       where
         long : length bytes ≡ n
         long = cut_length w rest n c
@@ -101,19 +101,19 @@ module _ (lim : Limits) (e : End) (g : well_made lim e ≡ true) (u : e.up ≡ t
       is : read_header bytes ≡ h
       is = front_header w rest n (omega (arith, w.sound.low))
 
-      whole-number : (st : ℕ) → take_number lim e (take n (packet_bytes h v ++ rest)) st
+      whole_number : (st : ℕ) → take_number lim e (take n (packet_bytes h v ++ rest)) st
           ≡ if (short_storage lim e st) 9 (first (kind_cases lim (One k) e.role (holds h.sid e.slots) (full e.slots)
           (session_of h.sid e.slots) h))
-      whole-number st = number-whole lim e g u bytes st h k is w.sound (whole_there w rest n l)
+      whole_number st = number_whole lim e g u bytes st h k is w.sound (whole_there w rest n l)
 
-      whole-answer : (st : ℕ) → take_number lim e (take n (packet_bytes h v ++ rest)) st ≡ 0
+      whole_answer : (st : ℕ) → take_number lim e (take n (packet_bytes h v ++ rest)) st ≡ 0
           → take_of lim e (take n (packet_bytes h v ++ rest)) st ≡ take_done h (taken_end (One k) h e)
-      whole-answer st z = answer-done lim e bytes h k is (whole_flags w) st z
+      whole_answer st z = answer_done lim e bytes h k is (whole_flags w) st z
 
-      whole-storage : (lent : List ℕ) → take_number lim e (take n (packet_bytes h v ++ rest)) (length lent) ≡ 0
+      whole_storage : (lent : List ℕ) → take_number lim e (take n (packet_bytes h v ++ rest)) (length lent) ≡ 0
           → take_storage lim e (take n (packet_bytes h v ++ rest)) lent ≡ taken_storage lim (One k) e h (packet_bytes h v) lent
-      whole-storage lent z =
-          storage-done lim e bytes h k is (whole_flags w) lent z
+      whole_storage lent z =
+          storage_done lim e bytes h k is (whole_flags w) lent z
           ∙ kept_front w lim (slot_of h.sid e.slots) lent (cell_of (session_of h.sid e.slots).state k) rest n l
 
 -- ---- a lane's packet: no SYN
@@ -135,27 +135,27 @@ module _ (lim : Limits) (small : header_length + lim.place < 2 ^ 32) (e : End) (
   w = packet_whole lim.place small sid low p fits
 
   pub packet_cut : n < length (packet_for sid p) → (st : ℕ) → take_number lim e (take n (packet_for sid p ++ rest)) st ≡ if (short_storage lim e st) 9 10
-  packet_cut c st = cut-number lim e g u w rest n (omega (arith, packet_size sid p)) st
+  packet_cut c st = cut_number lim e g u w rest n (omega (arith, packet_size sid p)) st
 
   module _ (l : length (packet_for sid p) ≤ n) where
     all : (header_for sid p).length ≤ n
     all = omega (arith, packet_size sid p)
 
-    pub packet-number : (st : ℕ) → take_number lim e (take n (packet_for sid p ++ rest)) st
+    pub packet_number : (st : ℕ) → take_number lim e (take n (packet_for sid p ++ rest)) st
         ≡ if (short_storage lim e st) 9 (first (other_cases lim (kind_of p) (holds sid e.slots) (session_of sid e.slots) (header_for sid p)))
-    packet-number st =
-        whole-number lim e g u w rest n all st
+    packet_number st =
+        whole_number lim e g u w rest n all st
         ∙ ap (λ (m : ℕ). if (short_storage lim e st) 9 m)
         (other_kind lim p e.role (holds sid e.slots) (full e.slots) (session_of sid e.slots) (header_for sid p))
 
-    pub packet-answer : (st : ℕ) → take_number lim e (take n (packet_for sid p ++ rest)) st ≡ 0
+    pub packet_answer : (st : ℕ) → take_number lim e (take n (packet_for sid p ++ rest)) st ≡ 0
         → take_of lim e (take n (packet_for sid p ++ rest)) st ≡ take_done (header_for sid p) (changed_of sid (taken_on (kind_of p) (header_for sid p)) e)
-    packet-answer st z = whole-answer lim e g u w rest n all st z ∙ ap (take_done (header_for sid p)) (other_end p (header_for sid p) e)
+    packet_answer st z = whole_answer lim e g u w rest n all st z ∙ ap (take_done (header_for sid p)) (other_end p (header_for sid p) e)
 
-    pub packet-storage : (lent : List ℕ) → take_number lim e (take n (packet_for sid p ++ rest)) (length lent) ≡ 0
+    pub packet_storage : (lent : List ℕ) → take_number lim e (take n (packet_for sid p ++ rest)) (length lent) ≡ 0
         → take_storage lim e (take n (packet_for sid p ++ rest)) lent
         ≡ kept lim (cell_of (session_of sid e.slots).state (kind_of p)) (slot_of sid e.slots) (header_for sid p) (packet_for sid p) lent
-    packet-storage lent z = whole-storage lim e g u w rest n all lent z
+    packet_storage lent z = whole_storage lim e g u w rest n all lent z
 
 -- ---- a SYN: it changes no stored byte
 
@@ -171,23 +171,23 @@ module _ (lim : Limits) (small : header_length + lim.place < 2 ^ 32) (e : End) (
   number_is st = ap (λ (b : List ℕ). take_number lim e b st) bytes_are
 
   pub syn_cut : n < length (syn_for sid) → (st : ℕ) → take_number lim e (take n (syn_for sid ++ rest)) st ≡ if (short_storage lim e st) 9 10
-  syn_cut c st = number_is st ∙ cut-number lim e g u s rest n (omega (arith, syn_size sid)) st
+  syn_cut c st = number_is st ∙ cut_number lim e g u s rest n (omega (arith, syn_size sid)) st
 
   module _ (l : length (syn_for sid) ≤ n) where
-    syn-all : header_length ≤ n
-    syn-all = omega (arith, syn_size sid)
+    syn_all : header_length ≤ n
+    syn_all = omega (arith, syn_size sid)
 
-    pub syn-number : (st : ℕ) → take_number lim e (take n (syn_for sid ++ rest)) st
+    pub syn_number : (st : ℕ) → take_number lim e (take n (syn_for sid ++ rest)) st
         ≡ if (short_storage lim e st) 9 (first (syn_cases lim e.role (holds sid e.slots) (full e.slots) (syn_header sid)))
-    syn-number st = number_is st ∙ whole-number lim e g u s rest n syn-all st
+    syn_number st = number_is st ∙ whole_number lim e g u s rest n syn_all st
 
-    pub syn-answer : (st : ℕ) → take_number lim e (take n (syn_for sid ++ rest)) st ≡ 0
+    pub syn_answer : (st : ℕ) → take_number lim e (take n (syn_for sid ++ rest)) st ≡ 0
         → take_of lim e (take n (syn_for sid ++ rest)) st ≡ take_done (syn_header sid) (put_of (lowest_free e.slots) (fresh_of sid) e)
-    syn-answer st z = ap (λ (b : List ℕ). take_of lim e b st) bytes_are ∙ whole-answer lim e g u s rest n syn-all st (sym (number_is st) ∙ z)
+    syn_answer st z = ap (λ (b : List ℕ). take_of lim e b st) bytes_are ∙ whole_answer lim e g u s rest n syn_all st (sym (number_is st) ∙ z)
 
-    pub syn-storage : (lent : List ℕ) → take_number lim e (take n (syn_for sid ++ rest)) (length lent) ≡ 0
+    pub syn_storage : (lent : List ℕ) → take_number lim e (take n (syn_for sid ++ rest)) (length lent) ≡ 0
         → take_storage lim e (take n (syn_for sid ++ rest)) lent ≡ lent
-    syn-storage lent z =
+    syn_storage lent z =
         ap (λ (b : List ℕ). take_storage lim e b lent) bytes_are
-        ∙ whole-storage lim e g u s rest n syn-all lent (sym (number_is (length lent)) ∙ z)
+        ∙ whole_storage lim e g u s rest n syn_all lent (sym (number_is (length lent)) ∙ z)
         ∙ syn_keeps lim (session_of sid e.slots).state (slot_of sid e.slots) (syn_header sid) (packet_bytes (syn_header sid) []) lent

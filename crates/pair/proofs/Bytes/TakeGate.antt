@@ -15,7 +15,7 @@ use Rattle.wire.specs.declared.kind.Kind.{Kind}
 use Rattle.wire.specs.declared.kind.Flags.TheVariants.{One}
 use Rattle.wire.specs.Packet.{header_length, read_header, flags_of, SoundHeader, header_cases, header_number}
 use Rattle.wire.proofs.Flags.{flags_named}
-use Rattle.wire.proofs.Shapes.{is-0}
+use Rattle.wire.proofs.Shapes.{is_0}
 use Rattle.session.specs.declared.record.Session.{Session}
 use Rattle.table.specs.declared.end.Role.{Role}
 use Rattle.table.specs.declared.end.End.{End}
@@ -36,7 +36,7 @@ sound_cases lim k role held none x h given s =
     let f : flags_of h.flags ≡ One k = flags_named h.flags k s.flags in
     let after = ltb given h.length ⇒ 10 ∷ kind_cases lim (flags_of h.flags) role held none x h in
     first_append (header_cases lim.place h) after refl
-    ∙ done_0 (header_number lim.place h) (first after) (header_number lim.place h) (is-0 lim.place h s.smid k f s.fits)
+    ∙ done_0 (header_number lim.place h) (first after) (header_number lim.place h) (is_0 lim.place h s.smid k f s.fits)
     ∙ ap (λ t. if (ltb given h.length) 10 (first (kind_cases lim t role held none x h))) f
 
 module _ (lim : Limits) (e : End) (g : well_made lim e ≡ true) (u : e.up ≡ true) (bytes : List ℕ) (st : ℕ) where
@@ -74,27 +74,27 @@ module _ (lim : Limits) (e : End) (g : well_made lim e ≡ true) (u : e.up ≡ t
     number_cut l c = beyond l ∙ rw (lt-ltb (length bytes) h.length c)
 
     -- a whole packet: its own cases
-    pub number-whole : h.length ≤ length bytes → take_number lim e bytes st
+    pub number_whole : h.length ≤ length bytes → take_number lim e bytes st
         ≡ if (short_storage lim e st) 9 (first (kind_cases lim (One k) e.role (holds h.sid e.slots) (full e.slots) (session_of h.sid e.slots) h))
-    number-whole l = beyond (omega (arith, s.low)) ∙ rw (le-ltb (length bytes) h.length l)
+    number_whole l = beyond (omega (arith, s.low)) ∙ rw (le-ltb (length bytes) h.length l)
 
 -- ---- the answer
 
 module _ (lim : Limits) (e : End) (bytes : List ℕ) where
   module _ (st m : ℕ) (n : take_number lim e bytes st ≡ m) where
-    pub answer-refused : 0 < m → m < 20 → take_of lim e bytes st ≡ take_refused m (missing bytes) e
+    pub answer_refused : 0 < m → m < 20 → take_of lim e bytes st ≡ take_refused m (missing bytes) e
     unfolding take_of
-    answer-refused p l = rw (n, ne_eqb m 0 (λ z. omega arith), lt-ltb m 20 l)
+    answer_refused p l = rw (n, ne_eqb m 0 (λ z. omega arith), lt-ltb m 20 l)
 
   pub storage_refused : (lent : List ℕ) (m : ℕ) → take_number lim e bytes (length lent) ≡ m → 0 < m → take_storage lim e bytes lent ≡ lent
   unfolding take_storage
   storage_refused lent m n p = rw n (done_not m (taken_storage lim (flags_of (read_header bytes).flags) e (read_header bytes) bytes lent) lent p)
 
   module _ (h : Header) (k : Kind) (is : read_header bytes ≡ h) (f : flags_of h.flags ≡ One k) where
-    pub answer-done : (st : ℕ) → take_number lim e bytes st ≡ 0 → take_of lim e bytes st ≡ take_done h (taken_end (One k) h e)
+    pub answer_done : (st : ℕ) → take_number lim e bytes st ≡ 0 → take_of lim e bytes st ≡ take_done h (taken_end (One k) h e)
     unfolding take_of
-    answer-done st n = rw (n, is, f)
+    answer_done st n = rw (n, is, f)
 
-    pub storage-done : (lent : List ℕ) → take_number lim e bytes (length lent) ≡ 0 → take_storage lim e bytes lent ≡ taken_storage lim (One k) e h bytes lent
+    pub storage_done : (lent : List ℕ) → take_number lim e bytes (length lent) ≡ 0 → take_storage lim e bytes lent ≡ taken_storage lim (One k) e h bytes lent
     unfolding take_storage
-    storage-done lent n = rw (n, is, f)
+    storage_done lent n = rw (n, is, f)

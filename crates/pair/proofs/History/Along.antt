@@ -68,7 +68,7 @@ module _ {slots : ℕ} {lim : Limits} where
   -- every run goes so
   pub run : {x : Scene} {W : World} → Mirror slots lim x W → (ss : List Step) → Run slots lim x W ss
   run m [] = record { acts = []; along = over m }
-  run {x} {W} m (s ∷ ss) = by (classify m s) (λ (U : World) (v : Mirror slots lim (entry lim x s).after U). run v ss)
+  run {x} {W} m (s ∷ ss) = by (classify m s) (λ (U : World) (v : Mirror slots lim (entry lim x s).after U). run {x = (entry lim x s).after} {W = U} v ss)
     where
       by : Rested slots lim x W s ⊎ ((a : Act) × Performs slots lim x W s a)
           → ((U : World) → Mirror slots lim (entry lim x s).after U → Run slots lim (entry lim x s).after U ss)

@@ -24,7 +24,7 @@ use Rattle.pair.proofs.Lane.Lane.{put, get, shut, deliver, Lane, moved, toward}
 use Rattle.pair.proofs.Lane.Tables.{Eq?, same, differ, eq?}
 use Rattle.pair.proofs.Lane.World.{syn, World}
 use Rattle.pair.proofs.Lane.Acts.{Act, dial, greet, turn, act, owner, Fit, again}
-use Rattle.pair.proofs.Lane.Heads.{syn-known, packet-toward, packet_held}
+use Rattle.pair.proofs.Lane.Heads.{syn_known, packet_toward, packet_held}
 use Rattle.pair.proofs.Lane.Alone.{Sim, sim_past, sim_act, alone_syn, alone_packet, Follows}
 use Rattle.pair.specs.World.{Party}
 use Rattle.pair.specs.Step.{Reply, Open, Read, Step, emitting}
@@ -133,7 +133,7 @@ module _ {slots : ℕ} {lim : Limits} {x : Scene} {W : World} {y : Scene} {A : W
       (ap (λ (r : Reply). r.used) d.reply ∙ sym (syn_size (W.sid n))) g)
   alone_performs m (taking {k} {n = n} {p = p} {l = l} e g) d b f =
       let h = alone_packet m.inv b.sim k p l e in
-      let used = ap (λ (r : Reply). r.used) d.reply ∙ ap (λ (q : List Packet). (head_reply (W.sid n) q).used) (packet-toward m.inv k n p l e) in
+      let used = ap (λ (r : Reply). r.used) d.reply ∙ ap (λ (q : List Packet). (head_reply (W.sid n) q).used) (packet_toward m.inv k n p l e) in
       taking h.1 (alone_given (x.world k) (y.world k) (packet_for (W.sid n) p) (packet_for (A.sid 0) p) (b.long k)
       (packet_size (A.sid 0) p ∙ sym (packet_size (W.sid n) p)) used g)
   alone_performs m (sending i) d b f = sending (record { listed = f.fit.0; name = b.sim.sid })
@@ -147,9 +147,9 @@ module _ {slots : ℕ} {lim : Limits} {x : Scene} {W : World} {y : Scene} {A : W
   alone_reply : (a : Act) → Mirror slots lim x W → Fit slots W a → Beside slots lim (owner W a) x W y A → plain (act_reply W a) ≡ act_reply A (again a)
   alone_reply (dial sid) m f b = ap (emitting 0 0 header_length) (syn_numberless sid)
   alone_reply greet m f b =
-      let e : W.chan server ≡ syn W.known ∷ f.tail = f.eq ∙ ap (λ (n : ℕ). syn n ∷ f.tail) (syn-known m.inv f.lane f.tail f.eq) in
+      let e : W.chan server ≡ syn W.known ∷ f.tail = f.eq ∙ ap (λ (n : ℕ). syn n ∷ f.tail) (syn_known m.inv f.lane f.tail f.eq) in
       let h = alone_syn m.inv b.sim f.tail e in
-      ap (taking_reply header_length (flags_value Syn)) (sym (ap A.sid (sym (syn-known b.sim.inv 0 h.0 h.1)) ∙ b.sim.sid))
+      ap (taking_reply header_length (flags_value Syn)) (sym (ap A.sid (sym (syn_known b.sim.inv 0 h.0 h.1)) ∙ b.sim.sid))
   alone_reply (turn k n c) m f b = turn_alone k n c b.sim
 
 -- ---- all of them

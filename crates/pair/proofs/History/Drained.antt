@@ -1,6 +1,6 @@
 -- Nothing gets stuck. From a mirrored scene, takes at a side that keeps what arrives empty its channel, and then as many reads as there are
 -- payloads unread hand over all of them. Of the session's lane the other half stays as it was.
-use Prim.Native.Nat.{ℕ, zero, suc, ◌+◌, ◌≤◌, ◌<◌}
+use Prim.Native.Nat.{ℕ, zero, suc, ◌≤◌, ◌<◌}
 use native.Mathlib.Omega.{arith}
 use mathlib.Core.Path.{◌≡◌, refl, sym, ap, ◌∙◌, subst}
 use mathlib.Core.Bool.{Bool, true, false, not, ◌&&◌, and-false}
@@ -17,13 +17,13 @@ use Rattle.pair.proofs.Lane.Half.{Bytes, Packet, dat, ack, fin, St, est, fs, fr,
 use Rattle.pair.proofs.Lane.Lane.{get, deliver, Lane, st_of, half, toward}
 use Rattle.pair.proofs.Lane.Inv.{closes, ended, keeps, Dir, none_lost, Good}
 use Rattle.pair.proofs.Lane.Takes.{passed}
-use Rattle.pair.proofs.Lane.Story.{seen, head-in-range, head-passes}
+use Rattle.pair.proofs.Lane.Story.{seen, head_in_range, head_passes}
 use Rattle.pair.proofs.Lane.Told.{told_eleven}
 use Rattle.pair.proofs.Lane.Tables.{has, Eq?, same, differ, eq?}
 use Rattle.pair.proofs.Lane.World as lanes
 use Rattle.pair.proofs.Lane.World.{Item, syn, pkt, pick, live, bound, World, rest}
 use Rattle.pair.proofs.Lane.Acts.{Act, act, ends}
-use Rattle.pair.proofs.Lane.Heads.{no_syn_lem, packet-toward}
+use Rattle.pair.proofs.Lane.Heads.{no_syn_lem, packet_toward}
 use Rattle.pair.proofs.Lane.Sides.{others_still, own_half, their_half, own_bound, own_chan}
 use Rattle.pair.specs.World.{Party}
 use Rattle.pair.specs.Step.{Take, Read, Step, Reply, did, acted, reached, reply_to}
@@ -164,10 +164,10 @@ module _ {slots : ℕ} {lim : Limits} {x : Scene} {W : World} (m : Mirror slots 
       mine e =
           let L = W.lanes n in
           let good = m.inv.good n in
-          let head = packet-toward m.inv k n p l e in
-          let a = passed_keeps (st_of k L) p (half k L) t (head-in-range L good k p (pick n l) head).0 in
+          let head = packet_toward m.inv k n p l e in
+          let a = passed_keeps (st_of k L) p (half k L) t (head_in_range L good k p (pick n l) head).0 in
           own_half W k n deliver (λ (s : St) (B : Body). T (keeps s) × (B.got ≡ g))
-          (subst (λ (o : Out). T (keeps o.st) × (o.body.got ≡ g)) (sym (head-passes L good k p (pick n l) head).0) (a.keep, a.got ∙ h))
+          (subst (λ (o : Out). T (keeps o.st) × (o.body.got ≡ g)) (sym (head_passes L good k p (pick n l) head).0) (a.keep, a.got ∙ h))
 
       by : Eq? n j (eqb n j) → T (keeps (st_of k ((lanes.own W k j deliver).lanes n))) × ((half k ((lanes.own W k j deliver).lanes n)).got ≡ g)
       by (same q _) = subst (λ (i : ℕ). T (keeps (st_of k ((lanes.own W k i deliver).lanes n))) × ((half k ((lanes.own W k i deliver).lanes n)).got ≡ g)) q
@@ -278,10 +278,10 @@ module _ (L : Lane) (i : Good L) (k : Side) (t : T (keeps (st_of k L))) (e : tow
   fin_here c = by (st_of k L) t refl
     where
       by : (s : St) → T (keeps s) → st_of k L ≡ s → st_of k L ≡ fr
-      by est t q = absurd (open-end (rw (q, e) at (seen L i k).bwd) c)
+      by est t q = absurd (open_end (rw (q, e) at (seen L i k).bwd) c)
         where
-          open-end : {sx : St} {a : List Bytes} {g l : ℕ} {got un : List Bytes} {hi : ℕ} → Dir sx a g l [] est got un hi → T (closes sx) → ⊥
-          open-end {sx} d c = not_both (closes sx) d.flow.0 c
+          open_end : {sx : St} {a : List Bytes} {g l : ℕ} {got un : List Bytes} {hi : ℕ} → Dir sx a g l [] est got un hi → T (closes sx) → ⊥
+          open_end {sx} d c = not_both (closes sx) d.flow.0 c
       by fr t q = q
       by fs t q = absurd t
       by gone t q = absurd t
@@ -353,8 +353,8 @@ module _ {slots : ℕ} {lim : Limits} {first : Scene} {steps : List Step} {t : L
           ∙ told_eleven (Z.lanes n) k _
           (fin_here (Z.lanes n) (z.inv.good n) k B.keep bare (subst (λ (s : St). T (closes s)) (sym (B.state ∙ A.state)) c)) B.there.0
 
-      both-lead : Drained lim first steps (ss ++ rs) k n next
-      both-lead = record {
+      both_lead : Drained lim first steps (ss ++ rs) k n next
+      both_lead = record {
         nothing = ap (λ (y : Scene). (y.world k).coming) scene ∙ all_bytes (z.at k) ∙ ap (bytes_of Z) quiet ∙ stream_empty (λ (y : Marked). y.bytes);
         all = sym (half_received whole n k) ∙ ap (λ (Y : World). (half k (Y.lanes n)).got) world ∙ got ∙ acc;
         same = sym (half_accepted whole n (other k)) ∙ ap (λ (Y : World). acc_of (half (other k) (Y.lanes n))) world ∙ acc;
@@ -370,13 +370,13 @@ module _ {slots : ℕ} {lim : Limits} {first : Scene} {steps : List Step} {t : L
       let m = at_end l in
       let a = held m k i n h in
       let name : W.sid n ≡ (slot_at x k i).sid = sym a.stands.sid in
-      let open-half = ap fin_sent (sym a.stands.state) ∙ f in
-      let used-half = ap in_use (sym a.stands.state) ∙ h.used in
+      let open_half = ap fin_sent (sym a.stands.state) ∙ f in
+      let used_half = ap in_use (sym a.stands.state) ∙ h.used in
       let count : length (W.chan k) ≡ length (x.book.notes k).coming = sym (ap length (m.at k).marks ∙ length-map (W.chan k) (mark_of W.sid)) in
       let A : Leads slots lim k n (Empty k n (half k (W.lanes n)).got) x W (takes x k given lent)
       = takes_lead slots lim n given lent (half k (W.lanes n)).got k (length (x.book.notes k).coming) x W m
-      ((m.inv.tables k).below n a.listed) (open_keeps (st_of k (W.lanes n)) open-half used-half) refl count all long in
-      from k i n name given room ackRoom lent wide some (placed m k i n h open-half used-half) m long A
+      ((m.inv.tables k).below n a.listed) (open_keeps (st_of k (W.lanes n)) open_half used_half) refl count all long in
+      from k i n name given room ackRoom lent wide some (placed m k i n h open_half used_half) m long A
     where
       from : (k : Side) (i n : ℕ) (name : W.sid n ≡ (slot_at x k i).sid) (given room ackRoom lent : ℕ) → lim.place ≤ room → header_length ≤ ackRoom
           → acc_of (half (other k) (W.lanes n)) ≡ (half k (W.lanes n)).got ++ (unread_in lim.place x k i ++ on_way x k n)
@@ -385,7 +385,7 @@ module _ {slots : ℕ} {lim : Limits} {first : Scene} {steps : List Step} {t : L
           (record { side = k; call = Read (slot_at x k i).sid room ackRoom lent })
       from k i n name given room ackRoom lent wide some rows m long A =
           let sid = (slot_at x k i).sid in
-          both-lead k n sid name room ackRoom lent (half k (W.lanes n)).got (takes x k given lent) (reads lim.place x k i n room ackRoom lent) A
+          both_lead k n sid name room ackRoom lent (half k (W.lanes n)).got (takes x k given lent) (reads lim.place x k i n room ackRoom lent) A
           (reads_lead slots lim k n room ackRoom lent wide some sid (length (unread_in lim.place x k i ++ on_way x k n)) _ _ (A.sid ∙ name)
           (at_end A.along)
           A.below A.keep (left k n (unread_in lim.place x k i ++ on_way x k n) (takes x k given lent) A rows)

@@ -19,19 +19,19 @@ use Rattle.pair.proofs.Lane.Lane as lane
 use Rattle.pair.proofs.Lane.Lane.{begin, moved, st_of, half, Event, event, took_if, took, gave, only_at, reads, Lane}
 use Rattle.pair.proofs.Lane.Inv.{closes, start}
 use Rattle.pair.proofs.Lane.Closed.{Closes, closed_history, closed_all}
-use Rattle.pair.proofs.Lane.Story.{head-taken, reads_is, accepted_is}
+use Rattle.pair.proofs.Lane.Story.{head_taken, reads_is, accepted_is}
 use Rattle.pair.proofs.Lane.Told as lane-told
 use Rattle.pair.proofs.Lane.Told.{Tells}
 use Rattle.pair.proofs.Lane.World.{World, dawn}
 use Rattle.pair.proofs.Lane.Acts.{Act, dial, greet, turn, act, owner, events_of, ends, steps_of}
-use Rattle.pair.proofs.Lane.Heads.{packet-toward}
+use Rattle.pair.proofs.Lane.Heads.{packet_toward}
 use Rattle.pair.proofs.Lane.Apart.{isolated, isolated_lane, events_first_part, events_told_whole}
 use Rattle.pair.specs.Step.{Step, Reply}
 use Rattle.pair.specs.History.{Scene, Entry, entry, history}
 use Rattle.pair.specs.Claims.{own, only, sent, got, accepted, received, Some, Told, Ended, FirstPart}
 use Rattle.pair.proofs.Bytes.Encoded.{handed}
 use Rattle.pair.proofs.Mirror.Scene.{Mirror}
-use Rattle.pair.proofs.Steps.Performs.{Performs, opening, greeting, taking, sending, reading, closing, Acted}
+use Rattle.pair.proofs.Steps.Performs.{Performs, opening, greeting, taking, sending, reading, closing, Acted, send_room, close_room}
 use Rattle.pair.proofs.History.Along.{Along, over, rests, acts}
 
 -- ---- whose an entry is
@@ -86,15 +86,15 @@ module _ {slots : ℕ} {lim : Limits} {x : Scene} {W : World} where
   event_of s k n c m (taking {p = p} {l = l} e g) d = record {
     side = refl;
     sent = refl;
-    got = ap gave (sym (head-taken (W.lanes n) (m.inv.good n) k p _ (packet-toward m.inv k n p l e)).dry);
+    got = ap gave (sym (head_taken (W.lanes n) (m.inv.good n) k p _ (packet_toward m.inv k n p l e)).dry);
     told = λ j t. absurd t.read;
     ends = λ j t. absurd t.close;
     ended = λ j t. absurd t.1;
   }
-  event_of s k n c m (sending {p = p} i) d = record {
+  event_of s k n c m (sending {room = room} {p = p} i) d = record {
     side = refl;
     sent = ap (λ (r : Reply). done r.number (p ∷ []) []) d.reply ∙ took_is (moved k c (W.lanes n)).out.ans p;
-    got = sym (send_all (λ (o : Out). gave o.pay ≡ []) (half k (W.lanes n)) p _ (st_of k (W.lanes n)) (λ a t u. refl) (λ e t u. refl));
+    got = sym (send_all (λ (o : Out). gave o.pay ≡ []) (half k (W.lanes n)) p (send_room lim p room) (st_of k (W.lanes n)) (λ a t u. refl) (λ e t u. refl));
     told = λ j t. absurd t.read;
     ends = λ j t. absurd t.close;
     ended = λ j t. absurd t.1;
@@ -110,10 +110,10 @@ module _ {slots : ℕ} {lim : Limits} {x : Scene} {W : World} where
     ends = λ j t. absurd t.close;
     ended = λ j t. absurd t.1;
   }
-  event_of s k n c m (closing i) d = record {
+  event_of s k n c m (closing {room = room} i) d = record {
     side = refl;
     sent = refl;
-    got = sym (close_all (λ (o : Out). gave o.pay ≡ []) (half k (W.lanes n)) _ (st_of k (W.lanes n)) (λ a t u. refl) (λ e. refl) (λ e. refl));
+    got = sym (close_all (λ (o : Out). gave o.pay ≡ []) (half k (W.lanes n)) (close_room room) (st_of k (W.lanes n)) (λ a t u. refl) (λ e. refl) (λ e. refl));
     told = λ j t. absurd t.read;
     ends = λ j t. (t.side, tt, sym (ap (λ (r : Reply). r.number) d.reply) ∙ t.number);
     ended = λ j t. record { side = t.0; close = tt; number = ap (λ (r : Reply). r.number) d.reply ∙ t.2 };

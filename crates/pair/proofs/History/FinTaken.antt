@@ -16,7 +16,7 @@ use Rattle.pair.proofs.Lane.Lane.{deliver, st_of}
 use Rattle.pair.proofs.Lane.Inv.{ended}
 use Rattle.pair.proofs.Lane.World.{Item, pkt, World, own, WInv}
 use Rattle.pair.proofs.Lane.Acts.{Act, act, ends, steps_of}
-use Rattle.pair.proofs.Lane.Heads.{packet-toward}
+use Rattle.pair.proofs.Lane.Heads.{packet_toward}
 use Rattle.pair.proofs.Lane.Apart.{isolated_lane}
 use Rattle.pair.proofs.Lane.Ended.{final_ended, fin_ends, live_ended}
 use Rattle.pair.specs.Step.{Step, Reply}
@@ -46,7 +46,7 @@ module _ {slots : ℕ} {lim : Limits} (k : Side) (n : ℕ) where
   taken_ended m (closing i) d f = absurd f.take
   taken_ended m (greeting e g) d f = absurd (omega (arith, ap (λ (r : Reply). r.kind) d.reply, f.kind))
   taken_ended {W = W} m (taking {k = j} {n = i} {p = p} {l = l} e g) d f =
-      let kind = ap (λ (r : Reply). r.kind) d.reply ∙ ap (λ (q : List Packet). (head_reply (W.sid i) q).kind) (packet-toward m.inv j i p l e) in
+      let kind = ap (λ (r : Reply). r.kind) d.reply ∙ ap (λ (q : List Packet). (head_reply (W.sid i) q).kind) (packet_toward m.inv j i p l e) in
       let mine = some-injective i n (sym d.whose ∙ f.whose) in
       subst (λ (s : Side). T (ended (st_of s ((own W j i deliver).lanes n)))) f.side
       (subst (λ (y : ℕ). T (ended (st_of j ((own W j i deliver).lanes y)))) mine (fin_only m.inv j i p l e (sym kind ∙ f.kind)))

@@ -41,13 +41,13 @@ module _ {slots : ℕ} {lim : Limits} {x : Scene} {W : World} (m : Mirror slots 
     pub held : Filled lim W k (x.world k) i n
     held = subst (Filled lim W k (x.world k) i) h.owner ((m.at k).filled i (omega (arith, h.slot, (m.at k).many)) h.used)
 
-    pub held-state : (s : St) → (slot_at x k i).state ≡ state_of s → st_of k (W.lanes n) ≡ s
-    held-state s e = state_one (st_of k (W.lanes n)) s (sym held.stands.state ∙ e)
+    pub held_state : (s : St) → (slot_at x k i).state ≡ state_of s → st_of k (W.lanes n) ≡ s
+    held_state s e = state_one (st_of k (W.lanes n)) s (sym held.stands.state ∙ e)
 
     -- nothing is unread
-    pub held-read : (s : St) → st_of k (W.lanes n) ≡ s → fin_sent (state_of s) ≡ false → in_use (state_of s) ≡ true → unread (slot_at x k i) ≡ 0
+    pub held_read : (s : St) → st_of k (W.lanes n) ≡ s → fin_sent (state_of s) ≡ false → in_use (state_of s) ≡ true → unread (slot_at x k i) ≡ 0
         → (half k (W.lanes n)).unread ≡ []
-    held-read s e f u z =
+    held_read s e f u z =
         none_left (half k (W.lanes n)).unread
         (sym (unread_counts held.stands (ranges_of m k n) (ap (λ (t : St). fin_sent (state_of t)) e ∙ f) (ap (λ (t : St). in_use (state_of t)) e ∙ u)) ∙ z)
 
@@ -58,9 +58,9 @@ module _ {slots : ℕ} {lim : Limits} {x : Scene} {W : World} (m : Mirror slots 
         ∙ told_eleven (W.lanes n) k (read_room slots lim room ack lent (length (x.world k).storage)) e u
 
     -- a read that answers 11 tells that the other half has closed
-    pub read-eleven : (room ack lent : ℕ) → (reply_to lim (record { side = k; call = Read (slot_at x k i).sid room ack lent }) x.world).number ≡ 11
+    pub read_eleven : (room ack lent : ℕ) → (reply_to lim (record { side = k; call = Read (slot_at x k i).sid room ack lent }) x.world).number ≡ 11
         → T (closes (st_of (other k) (W.lanes n)))
-    read-eleven room ack lent e =
+    read_eleven room ack lent e =
         let r = (acted_reading m (record { listed = held.listed; name = sym held.stands.sid }) room ack lent).reply in
         (told_at (W.lanes n) (m.inv.good n) k (get (read_room slots lim room ack lent (length (x.world k).storage))) tt
         (sym (ap (λ (r : Reply). r.number) r) ∙ e)).closed
@@ -69,20 +69,20 @@ module _ {slots : ℕ} {lim : Limits} {x : Scene} {W : World} (m : Mirror slots 
   module _ (n : ℕ) (i : Side → ℕ) (h : (k : Side) → Holds x k (i k) n) (e : (k : Side) → (slot_at x k (i k)).state ≡ Established)
       (c : (k : Side) → (x.world k).coming ≡ []) (k : Side) (z : unread (slot_at x (other k) (i (other k))) ≡ 0) where
     both : (k : Side) → st_of k (W.lanes n) ≡ est
-    both k = held-state k (i k) n (h k) est (e k)
+    both k = held_state k (i k) n (h k) est (e k)
 
     nothing : (k : Side) → toward k (W.lanes n) ≡ []
     nothing k = sym (m.inv.queue k n) ∙ ap (pick n) (no_items m k (c k))
 
     all_read : (half (other k) (W.lanes n)).unread ≡ []
-    all_read = held-read (other k) (i (other k)) n (h (other k)) est (both (other k)) refl refl z
+    all_read = held_read (other k) (i (other k)) n (h (other k)) est (both (other k)) refl refl z
 
-    pub window-open : (3 ≤ minus (slot_at x k (i k)).h (slot_at x k (i k)).s) × (minus (slot_at x k (i k)).h (slot_at x k (i k)).s ≤ window)
-    window-open = opened_window (held k (i k) n (h k)).stands (ranges_of m k n) (window_opens (W.lanes n) (m.inv.good n) both nothing k all_read)
+    pub window_open : (3 ≤ minus (slot_at x k (i k)).h (slot_at x k (i k)).s) × (minus (slot_at x k (i k)).h (slot_at x k (i k)).s ≤ window)
+    window_open = opened_window (held k (i k) n (h k)).stands (ranges_of m k n) (window_opens (W.lanes n) (m.inv.good n) both nothing k all_read)
 
-    pub send-accepted : (payload : List ℕ) (room : ℕ) → length payload ≤ lim.place → header_length + length payload ≤ room
+    pub send_accepted : (payload : List ℕ) (room : ℕ) → length payload ≤ lim.place → header_length + length payload ≤ room
         → (reply_to lim (record { side = k; call = Send (slot_at x k (i k)).sid payload room }) x.world).number ≡ 0
-    send-accepted payload room f g =
+    send_accepted payload room f g =
         let a = held k (i k) n (h k) in
         ap (λ (r : Reply). r.number) (acted_sending m (record { listed = a.listed; name = sym a.stands.sid }) payload room).reply
         ∙ ap (λ (o : Out). o.ans) (window_sends (W.lanes n) (m.inv.good n) both nothing k all_read payload (send_room lim payload room)

@@ -25,13 +25,13 @@ use Rattle.pair.specs.Side.{Side, client, server}
 use Rattle.pair.proofs.Lane.Half.{Packet, dat, ack, fin}
 use Rattle.pair.proofs.Lane.World.{Item, syn, pkt, World}
 use Rattle.pair.proofs.Lane.Acts.{Act}
-use Rattle.pair.proofs.Lane.Heads.{no_syn_lem, syn-born, syn-known, packet-toward}
+use Rattle.pair.proofs.Lane.Heads.{no_syn_lem, syn_born, syn_known, packet_toward}
 use Rattle.pair.specs.Step.{Take, Reply, reply_to}
 use Rattle.pair.specs.Whose.{Marked}
 use Rattle.pair.specs.History.{Scene}
 use Rattle.pair.specs.Claims.{OfHead}
 use Rattle.pair.proofs.Bytes.Encoded.{kind_of, packet_for, syn_for, packet_whole, syn_whole, syn_bytes, syn_size}
-use Rattle.pair.proofs.Bytes.TakeGate.{answer-refused}
+use Rattle.pair.proofs.Bytes.TakeGate.{answer_refused}
 use Rattle.pair.proofs.Mirror.Scene.{mark_of, Mirror}
 use Rattle.pair.proofs.Mirror.Channels.{bytes_of, front_bytes, packet_low, packet_small}
 use Rattle.pair.proofs.Steps.Performs.{Performs, greeting, taking, head_reply, Rested}
@@ -44,7 +44,7 @@ unfolding take_of
 given_number lim e bytes st = take_told (take_number lim e bytes st) bytes e
 
 counts : (lim : Limits) (e : End) (bytes : List ℕ) (st : ℕ) → (take_of lim e bytes st).number ≡ 10 → (take_of lim e bytes st).missing ≡ missing bytes
-counts lim e bytes st q = ap (λ (r : Taken). r.missing) (answer-refused lim e bytes st 10 (sym (given_number lim e bytes st) ∙ q) (omega arith) (omega arith))
+counts lim e bytes st q = ap (λ (r : Taken). r.missing) (answer_refused lim e bytes st 10 (sym (given_number lim e bytes st) ∙ q) (omega arith) (omega arith))
 
 -- of a packet's front, given in part
 missing_head : {place : ℕ} {h : Header} {k : Kind} {v : List ℕ} → Whole place h k v → (rest : List ℕ) (n : ℕ)
@@ -92,11 +92,11 @@ module _ {slots : ℕ} {lim : Limits} {x : Scene} {W : World} (m : Mirror slots 
       by (inl r) i l e z = absurd (r.refused tt z)
       by {k} {given} {lent} (inr (a, greeting {n = n} {l = t} f g)) i l e z =
           let r = (performs_acts m (greeting f g)).reply in
-          let known = syn-known m.inv n t f in
+          let known = syn_known m.inv n t f in
           subst (Tells server given lent) (ap (λ (l : List Item). get_or l 0 i) (sym f ∙ e))
           (ap (λ (r : Reply). r.kind) r ∙ sym (syn_kind (W.sid n)), ap (λ (r : Reply). r.used) r ∙ sym (syn_size (W.sid n)))
       by {k} {given} {lent} (inr (a, taking {n = n} {p = p} {l = t} f g)) i l e z =
-          let r = (performs_acts m (taking f g)).reply ∙ ap (head_reply (W.sid n)) (packet-toward m.inv k n p t f) in
+          let r = (performs_acts m (taking f g)).reply ∙ ap (head_reply (W.sid n)) (packet_toward m.inv k n p t f) in
           subst (Tells k given lent) (ap (λ (l : List Item). get_or l 0 i) (sym f ∙ e))
           (ap (λ (r : Reply). r.kind) r ∙ sym (packet_kind (W.sid n) p), ap (λ (r : Reply). r.used) r)
 
@@ -105,7 +105,7 @@ module _ {slots : ℕ} {lim : Limits} {x : Scene} {W : World} (m : Mirror slots 
       → let b = take given (x.world k).coming in
       missing b ≡ if (ltb (length b) header_length) (header_length - length b) (length (mark_of W.sid i).bytes - length b)
   missing_at server given (syn n) l e =
-      let w = syn_whole lim.place m.sizes.fits (W.sid n) (m.low n (syn-born m.inv n l e)) in
+      let w = syn_whole lim.place m.sizes.fits (W.sid n) (m.low n (syn_born m.inv n l e)) in
       let q : (mark_of W.sid (syn n)).bytes ≡ _ = syn_bytes (W.sid n) in
       rw (front_bytes (m.at server) e, q) (missing_head w (bytes_of W l) given)
   missing_at client given (syn n) l e = absurd (no_syn_lem m.inv n l e)

@@ -33,10 +33,10 @@ use Rattle.pair.specs.Side.{Side, other, server}
 use Rattle.pair.proofs.Lane.Half.{Packet, dat, ack, fin, St, est, fs, fr, gone}
 use Rattle.pair.proofs.Lane.Lane.{st_of}
 use Rattle.pair.proofs.Lane.Inv.{ended}
-use Rattle.pair.proofs.Lane.Story.{head-in-range}
+use Rattle.pair.proofs.Lane.Story.{head_in_range}
 use Rattle.pair.proofs.Lane.World.{Item, syn, pkt, pick, World}
 use Rattle.pair.proofs.Lane.Acts.{Act, greet}
-use Rattle.pair.proofs.Lane.Heads.{syn-known, packet-toward}
+use Rattle.pair.proofs.Lane.Heads.{syn_known, packet_toward}
 use Rattle.pair.specs.World.{Party}
 use Rattle.pair.specs.Step.{Take, Step, did, acted, reached}
 use Rattle.pair.specs.Whose.{Notes, owners}
@@ -48,7 +48,7 @@ use Rattle.pair.proofs.Record.Stands.{state_of}
 use Rattle.pair.proofs.Mirror.Scene.{slot, SlotFor, Mirror}
 use Rattle.pair.proofs.Mirror.Facts.{lane_stands}
 use Rattle.pair.proofs.Mirror.Sides.{with_own}
-use Rattle.pair.proofs.Mirror.Channels.{front-sender}
+use Rattle.pair.proofs.Mirror.Channels.{front_sender}
 use Rattle.pair.proofs.Steps.Performs.{Given, Performs, opening, greeting, taking, sending, reading, closing, Acted}
 use Rattle.pair.proofs.Steps.Greeting.{greeting_room, greeting_answer, greeting_storage}
 use Rattle.pair.proofs.Steps.Delivering.{taking_slot, taking_answer, taking_lent, taking_storage}
@@ -165,14 +165,14 @@ module _ {slots : ℕ} {lim : Limits} where
       (lowest_within (x.world server).end.slots (greeting_room m given lent e g)) (λ _. refl) (λ no. absurd (no refl))
       (sym (ap (λ (b : Bool). not (b && false)) (not_sent (slot_at x server i).state free-there)))
       (λ f _. never (sym (not_sent (slot_at x server i).state free-there) ∙ f)) W.known d.whose
-      (rw (answer, front-sender (m.at server) e, eq-eqb i i refl)) free-there
+      (rw (answer, front_sender (m.at server) e, eq-eqb i i refl)) free-there
       (λ o u. ap (λ (b : List ℕ). get_or b o 0) (greeting_storage m given lent e g))
 
   live : {x : Scene} {W : World} (m : Mirror slots lim x W) {k : Side} {n : ℕ} {p : Packet} {l : List Item} → W.chan k ≡ pkt n p ∷ l
       → (f : SlotFor slots (x.world k) (x.book.notes k) n) → fin_received (slot (x.world k) f.index).state ≡ false
   live {x} {W} m {k} {n} {p} {l} e f =
       ap fin_received (lane_stands m k n f).state
-      ∙ not_fr (st_of k (W.lanes n)) (head-in-range (W.lanes n) (m.inv.good n) k p (pick n l) (packet-toward m.inv k n p l e)).0
+      ∙ not_fr (st_of k (W.lanes n)) (head_in_range (W.lanes n) (m.inv.good n) k p (pick n l) (packet_toward m.inv k n p l e)).0
 
   act_filed : {x : Scene} {W : World} {s : Step} {a : Act} → Mirror slots lim x W → Performs slots lim x W s a → Acted slots lim x W s a
       → IsTake s.call → OwnSlot lim.place (entry lim x s)
@@ -181,7 +181,7 @@ module _ {slots : ℕ} {lim : Limits} where
   act_filed m (reading i) d t = absurd t
   act_filed m (closing i) d t = absurd t
   act_filed {x} {W} m (greeting {given} {lent} {n} {l} e g) d t =
-      let q = syn-known m.inv n l e in
+      let q = syn_known m.inv n l e in
       greet_filed m given lent (e ∙ ap (λ (j : ℕ). syn j ∷ l) q) (subst (λ (j : ℕ). Given slots lim (x.world server) (syn_for (W.sid j)) given lent) q g) d
   act_filed {x} {W} m (taking {k} {given} {lent} {n} {p} e g) d t =
       let f = taking_slot m e given lent g in

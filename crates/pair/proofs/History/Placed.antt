@@ -10,7 +10,7 @@ use Rattle.cases.specs.Cases.{if}
 use Rattle.wire.specs.Packet.{header_bytes, bytes, number}
 use Rattle.session.specs.declared.record.Session.{Session}
 use Rattle.session.specs.Counter.{minus}
-use Rattle.session.specs.Record.{in_use, fin_sent, oldest, unread, place}
+use Rattle.session.specs.Record.{in_use, fin_sent, oldest}
 use Rattle.session.proofs.Wrap.{plus_counts, place_counts, back_counts}
 use Rattle.table.specs.Limits.{Limits}
 use Rattle.table.specs.Storage.{place_start}

@@ -23,7 +23,7 @@ use Rattle.pair.proofs.Lane.Half.{read, close}
 use Rattle.pair.proofs.Lane.Outcomes.{one_all}
 use Rattle.pair.proofs.Lane.Lane.{st_of, half}
 use Rattle.pair.proofs.Lane.World.{Item, syn, pkt, World}
-use Rattle.pair.proofs.Lane.Heads.{no_syn_lem, packet-toward}
+use Rattle.pair.proofs.Lane.Heads.{no_syn_lem, packet_toward}
 use Rattle.pair.specs.Step.{Take, Open, Send, Read, Close, Reply, reply_to}
 use Rattle.pair.specs.Claims.{slot_at, Holds, Enough}
 use Rattle.pair.specs.Placed.{data_of}
@@ -32,7 +32,7 @@ use Rattle.pair.specs.History.{Scene}
 use Rattle.pair.proofs.Mirror.Scene.{mark_of, Mirror}
 use Rattle.pair.proofs.Mirror.Channels.{bytes_of, front_bytes}
 use Rattle.pair.proofs.Record.Stands.{state_of, s_is, h_is, unread_counts, unread_bound}
-use Rattle.pair.proofs.Record.Calls.{due-is}
+use Rattle.pair.proofs.Record.Calls.{due_is}
 use Rattle.pair.proofs.Mirror.Facts.{too_short, ranges_of, room_full, short_is}
 use Rattle.pair.proofs.Steps.Performs.{Given, opening, greeting, taking, head_reply, send_room, read_room, close_room}
 use Rattle.pair.proofs.Steps.Classify.{performs_acts}
@@ -40,7 +40,7 @@ use Rattle.pair.proofs.Steps.Sending.{acted_sending}
 use Rattle.pair.proofs.Steps.Reading.{acted_reading}
 use Rattle.pair.proofs.Steps.Closing.{acted_closing}
 use Rattle.pair.proofs.Bytes.Encoded.{emitted}
-use Rattle.pair.proofs.History.Holding.{held, held-state}
+use Rattle.pair.proofs.History.Holding.{held, held_state}
 use Rattle.pair.proofs.History.Placed.{packet_data}
 
 module _ {slots : ℕ} {lim : Limits} {x : Scene} {W : World} (m : Mirror slots lim x W) where
@@ -73,7 +73,7 @@ module _ {slots : ℕ} {lim : Limits} {x : Scene} {W : World} (m : Mirror slots 
       by server (syn n ∷ l) f e enough = ap (λ (r : Reply). r.number) (performs_acts m (greeting f (whole server f e enough))).reply
       by k (pkt n q ∷ l) f e enough =
           ap (λ (r : Reply). r.number) (performs_acts m (taking f (whole k f e enough))).reply
-          ∙ ap (λ (t : List Packet). (head_reply (W.sid n) t).number) (packet-toward m.inv k n q l f)
+          ∙ ap (λ (t : List Packet). (head_reply (W.sid n) t).number) (packet_toward m.inv k n q l f)
 
 -- ---- halves
 
@@ -104,17 +104,17 @@ module _ {slots : ℕ} {lim : Limits} {x : Scene} {W : World} (m : Mirror slots 
   open_goes room r f = ap (λ (r : Reply). r.number) (performs_acts m (opening {room = room} r (room_full m client f))).reply
 
   module _ (k : Side) (i n : ℕ) (h : Holds x k i n) (f : fin_sent (slot_at x k i).state ≡ false) where
-    open-half : fin_sent (state_of (st_of k (W.lanes n))) ≡ false
-    open-half = ap fin_sent (sym (held m k i n h).stands.state) ∙ f
+    open_half : fin_sent (state_of (st_of k (W.lanes n))) ≡ false
+    open_half = ap fin_sent (sym (held m k i n h).stands.state) ∙ f
 
-    used-half : in_use (state_of (st_of k (W.lanes n))) ≡ true
-    used-half = ap in_use (sym (held m k i n h).stands.state) ∙ h.used
+    used_half : in_use (state_of (st_of k (W.lanes n))) ≡ true
+    used_half = ap in_use (sym (held m k i n h).stands.state) ∙ h.used
 
-    pub close-goes : (room : ℕ) → header_length ≤ room → (reply_to lim (record { side = k; call = Close (slot_at x k i).sid room }) x.world).number ≡ 0
-    close-goes room r =
+    pub close_goes : (room : ℕ) → header_length ≤ room → (reply_to lim (record { side = k; call = Close (slot_at x k i).sid room }) x.world).number ≡ 0
+    close_goes room r =
         let a = held m k i n h in
         ap (λ (r : Reply). r.number) (acted_closing m (record { listed = a.listed; name = sym a.stands.sid }) room).reply
-        ∙ close_zero (st_of k (W.lanes n)) (close_room room) (half k (W.lanes n)) open-half used-half (le-ltb room 16 r)
+        ∙ close_zero (st_of k (W.lanes n)) (close_room room) (half k (W.lanes n)) open_half used_half (le-ltb room 16 r)
 
     -- the payload that is read is no longer than a place, so that a room of that size is enough
     pub read_fits : (room ack lent : ℕ) → lim.place ≤ room → Enough lim x k lent → (p : Bytes) (q : List Bytes) → (half k (W.lanes n)).unread ≡ p ∷ q
@@ -139,10 +139,10 @@ module _ {slots : ℕ} {lim : Limits} {x : Scene} {W : World} (m : Mirror slots 
 
         by : (q : List Bytes) → (half k (W.lanes n)).unread ≡ q
             → (read (read_room slots lim room ack lent (length (x.world k).storage)) (st_of k (W.lanes n)) (half k (W.lanes n))).ans ≡ 0
-        by [] e = absurd (u (unread_counts (held m k i n h).stands (ranges_of m k n) open-half used-half ∙ ap length e))
+        by [] e = absurd (u (unread_counts (held m k i n h).stands (ranges_of m k n) open_half used_half ∙ ap length e))
         by (p ∷ q) e =
-            (read_hands (st_of k (W.lanes n)) _ (half k (W.lanes n)) p q open-half used-half e (read_fits room ack lent r s p q e)
-            (ap (λ (t : Bool). t && ltb ack 16) (sym (due-is (held m k i n h).stands p q e (ranges_of m k n))) ∙ heard _ refl)).zero
+            (read_hands (st_of k (W.lanes n)) _ (half k (W.lanes n)) p q open_half used_half e (read_fits room ack lent r s p q e)
+            (ap (λ (t : Bool). t && ltb ack 16) (sym (due_is (held m k i n h).stands p q e (ranges_of m k n))) ∙ heard _ refl)).zero
 
   -- in ESTABLISHED, the window open
   pub send_goes : (k : Side) (i n : ℕ) → Holds x k i n → (slot_at x k i).state ≡ Established → (slot_at x k i).s ≢ (slot_at x k i).h → (payload : List ℕ) (room : ℕ)
@@ -156,7 +156,7 @@ module _ {slots : ℕ} {lim : Limits} {x : Scene} {W : World} (m : Mirror slots 
       let unshut : shut B ≡ false = sym (same_counts (s_of B) B.high b.fit b.high)
       ∙ ne_eqb _ _ (λ q. d (s_is a.stands ∙ q ∙ sym (h_is a.stands))) in
       let out : send payload (send_room lim payload room) (st_of k (W.lanes n)) B ≡ goes B payload
-      = ap (λ (s : St). send payload (send_room lim payload room) s B) (held-state m k i n h est e)
+      = ap (λ (s : St). send payload (send_room lim payload room) s B) (held_state m k i n h est e)
       ∙ rw (le-ltb lim.place (length payload) f, unshut, le-ltb room (header_length + length payload) g) in
       let r = (acted_sending m (record { listed = a.listed; name = sym a.stands.sid }) payload room).reply in (
         ap (λ (r : Reply). r.number) r ∙ ap (λ (o : Out). o.ans) out,

@@ -16,7 +16,7 @@ use Rattle.pair.proofs.Lane.Lane.{Call, put, get, shut, deliver, Lane, st_of, to
 use Rattle.pair.proofs.Lane.Tables.{has, T_true, false_T, has_head}
 use Rattle.pair.proofs.Lane.World.{Item, syn, pkt, pick, live, World, bound, own, opened, welcomed, dawn, Line, WInv}
 use Rattle.pair.proofs.Lane.Acts.{Act, dial, greet, turn, act, Ready, Fit, owner, again}
-use Rattle.pair.proofs.Lane.Heads.{known_born, no_syn_lem, syn-known, syn-born, packet-toward, packet_below}
+use Rattle.pair.proofs.Lane.Heads.{known_born, no_syn_lem, syn_known, syn_born, packet_toward, packet_below}
 use Rattle.pair.proofs.Lane.Sides.{own_moves, others_still}
 use Rattle.pair.proofs.Lane.Begin.{dawn_inv}
 use Rattle.pair.proofs.Lane.Runs.{act_inv}
@@ -95,7 +95,7 @@ module _ {slots n : ℕ} {W A : World} (i : WInv slots W) (s : Sim slots n W A) 
   -- its SYN stands at the head of the channel where it does so among others
   pub alone_syn : (l : List Item) → W.chan server ≡ syn n ∷ l → (r : List Item) × (A.chan server ≡ syn 0 ∷ r)
   alone_syn l e = syn_first A.held A.born A.known (A.chan server)
-      (s.bounds server ∙ reached_no n W.known (omega (arith, syn-known i n l e))) (s.bounds client ∙ reached_yes n W.born (syn-born i n l e))
+      (s.bounds server ∙ reached_no n W.known (omega (arith, syn_known i n l e))) (s.bounds client ∙ reached_yes n W.born (syn_born i n l e))
       s.inv.line
 
   -- so does its packet, the same one
@@ -103,12 +103,12 @@ module _ {slots n : ℕ} {W A : World} (i : WInv slots W) (s : Sim slots n W A) 
   alone_packet k p l e = by k (A.chan k) refl e
     where
       by : (k : Side) (c : List Item) → A.chan k ≡ c → W.chan k ≡ pkt n p ∷ l → (r : List Item) × (c ≡ pkt 0 p ∷ r)
-      by k [] f e = absurd (cons≢nil (sym (packet-toward i k n p l e) ∙ ap (toward k) s.lane ∙ sym (s.inv.queue k 0) ∙ ap (pick 0) f))
+      by k [] f e = absurd (cons≢nil (sym (packet_toward i k n p l e) ∙ ap (toward k) s.lane ∙ sym (s.inv.queue k 0) ∙ ap (pick 0) f))
       by client (syn j ∷ c) f e = absurd (no_syn_lem s.inv j c f)
       by server (syn j ∷ c) f e = let h = packet_below i server n p l e in absurd (omega (
         arith,
-        syn-known s.inv j c f,
-        syn-born s.inv j c f,
+        syn_known s.inv j c f,
+        syn_born s.inv j c f,
         s.bounds server,
         s.bounds client,
         reached_yes n W.known h,
@@ -117,7 +117,7 @@ module _ {slots n : ℕ} {W A : World} (i : WInv slots W) (s : Sim slots n W A) 
       by k (pkt j q ∷ c) f e =
           let z : j ≡ 0 = omega (arith, packet_below s.inv k j q c f, s.bounds k, reached_yes n (bound W k) (packet_below i k n p l e)) in
           let f0 : A.chan k ≡ pkt 0 q ∷ c = f ∙ ap (λ (x : ℕ). pkt x q ∷ c) z in
-          let same_head : q ≡ p = head-eq_of_cons-eq (sym (packet-toward s.inv k 0 q c f0) ∙ ap (toward k) (sym s.lane) ∙ packet-toward i k n p l e) in
+          let same_head : q ≡ p = head-eq_of_cons-eq (sym (packet_toward s.inv k 0 q c f0) ∙ ap (toward k) (sym s.lane) ∙ packet_toward i k n p l e) in
           (c, ap₂ (λ (x : ℕ) (y : Packet). pkt x y ∷ c) z same_head)
 
 -- ---- an act of session n
@@ -153,7 +153,7 @@ module _ {slots n : ℕ} {W A : World} (i : WInv slots W) (s : Sim slots n W A) 
   }
     where
       h : (r : List Item) × (A.chan server ≡ syn 0 ∷ r)
-      h = alone_syn i s f.tail (f.eq ∙ ap (λ (x : ℕ). syn x ∷ f.tail) (syn-known i f.lane f.tail f.eq ∙ e))
+      h = alone_syn i s f.tail (f.eq ∙ ap (λ (x : ℕ). syn x ∷ f.tail) (syn_known i f.lane f.tail f.eq ∙ e))
 
       fit' : Fit slots A greet
       fit' = record { lane = 0; tail = h.0; eq = h.1 }

@@ -10,9 +10,9 @@ use Rattle.pair.proofs.Lane.Outcomes.{send_all, read_all, close_all}
 use Rattle.pair.proofs.Lane.Lane.{Call, put, get, shut, deliver, deliver_to, move, moved, Lane, st_of, half, land, Step, next, final}
 use Rattle.pair.proofs.Lane.Inv.{ended}
 use Rattle.pair.proofs.Lane.Takes.{passed}
-use Rattle.pair.proofs.Lane.Story.{head-passes}
+use Rattle.pair.proofs.Lane.Story.{head_passes}
 use Rattle.pair.proofs.Lane.World.{Item, pkt, pick, World, own, WInv, live}
-use Rattle.pair.proofs.Lane.Heads.{packet-toward}
+use Rattle.pair.proofs.Lane.Heads.{packet_toward}
 use Rattle.pair.proofs.Lane.Sides.{own_moves, land_state}
 
 -- a half that has ended and is not gone is in FIN RECEIVED
@@ -66,5 +66,5 @@ fin_ends {W = W} i k n q v l e =
     let L = W.lanes n in
     subst (λ (s : St). T (ended s))
     (sym (ap (st_of k) (own_moves W k n deliver) ∙ land_state L (moved k deliver L) k
-    ∙ ap (λ (o : Out). o.st) (head-passes L (i.good n) k (fin q v) (pick n l) (packet-toward i k n (fin q v) l e)).0))
+    ∙ ap (λ (o : Out). o.st) (head_passes L (i.good n) k (fin q v) (pick n l) (packet_toward i k n (fin q v) l e)).0))
     (fin_passed (st_of k L) q v (half k L))

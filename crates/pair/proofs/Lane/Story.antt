@@ -72,16 +72,16 @@ module _ (L : Lane) (i : Good L) where
     first = subst (Inv (st_of k L) (half k L) (st_of (other k) L) (half (other k) L) (toward (other k) L)) e (seen k)
 
     -- the half has not ended, and the packet is in range
-    pub head-in-range : T (not (ended (st_of k L))) × InRange (half k L) (seqnum_of p) (wndw_of p)
-    head-in-range = in_range (st_of k L) p (half k L) first
+    pub head_in_range : T (not (ended (st_of k L))) × InRange (half k L) (seqnum_of p) (wndw_of p)
+    head_in_range = in_range (st_of k L) p (half k L) first
 
     -- both checks pass
-    pub head-passes : ((moved k deliver L).out ≡ passed (st_of k L) p (half k L)) × ((moved k deliver L).left ≡ l)
-    head-passes = rw e (passes (st_of k L) p (half k L) first, refl)
+    pub head_passes : ((moved k deliver L).out ≡ passed (st_of k L) p (half k L)) × ((moved k deliver L).left ≡ l)
+    head_passes = rw e (passes (st_of k L) p (half k L) first, refl)
 
     -- so it is taken with 0; nothing is emitted or handed over
-    pub head-taken : Taken (st_of k L) (half k L) (st_of (other k) L) (half (other k) L) (toward (other k) L) l (moved k deliver L).out
-    head-taken = rw e (take_taken (st_of k L) p (half k L) first)
+    pub head_taken : Taken (st_of k L) (half k L) (st_of (other k) L) (half (other k) L) (toward (other k) L) l (moved k deliver L).out
+    head_taken = rw e (take_taken (st_of k L) p (half k L) first)
 
 -- ---- a first part
 

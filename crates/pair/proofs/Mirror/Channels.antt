@@ -117,20 +117,20 @@ module _ {slots : ℕ} {lim : Limits} {W : World} {k : Side} {p : Party} {b : No
   all_bytes = a.bytes ∙ ap (flat_map (λ (m : Marked). m.bytes)) a.marks
 
   module _ {i : Item} {l : List Item} (e : W.chan k ≡ i ∷ l) where
-    front-marks : b.coming ≡ marks_of W (i ∷ l)
-    front-marks = a.marks ∙ ap (marks_of W) e
+    front_marks : b.coming ≡ marks_of W (i ∷ l)
+    front_marks = a.marks ∙ ap (marks_of W) e
 
-    pub front-sender : sender b.coming ≡ some (mark_of W.sid i).session
-    front-sender = ap sender front-marks
+    pub front_sender : sender b.coming ≡ some (mark_of W.sid i).session
+    front_sender = ap sender front_marks
 
     pub front_rest : rest b.coming ≡ marks_of W l
-    front_rest = ap rest front-marks
+    front_rest = ap rest front_marks
 
     pub front_bytes : p.coming ≡ (mark_of W.sid i).bytes ++ bytes_of W l
     front_bytes = all_bytes ∙ ap (bytes_of W) e ∙ stream_head (λ (m : Marked). m.bytes) (mark_of W.sid i) (marks_of W l)
 
-    pub front-leaves : (n : ℕ) → length (mark_of W.sid i).bytes ≡ n → drop n p.coming ≡ bytes_of W l
-    front-leaves n h = ap (drop n) (all_bytes ∙ ap (bytes_of W) e) ∙ stream_leaves (λ (m : Marked). m.bytes) (mark_of W.sid i) (marks_of W l) n h
+    pub front_leaves : (n : ℕ) → length (mark_of W.sid i).bytes ≡ n → drop n p.coming ≡ bytes_of W l
+    front_leaves n h = ap (drop n) (all_bytes ∙ ap (bytes_of W) e) ∙ stream_leaves (λ (m : Marked). m.bytes) (mark_of W.sid i) (marks_of W l) n h
 
 -- ---- a packet's SID has two bytes, and its payload is no longer than a place
 

@@ -9,7 +9,7 @@ use mathlib.Core.Option.{some}
 use lib.ListN.{length, take, length-take}
 use lib.Dec.{T, ltb}
 use Rattle.cases.proofs.Tests.{is_false}
-use Rattle.session.specs.Record.{window, in_use}
+use Rattle.session.specs.Record.{in_use}
 use Rattle.session.specs.Well.{InOrder}
 use Rattle.session.proofs.InOrder.{free_order}
 use Rattle.table.specs.Slots.{holds, slot_of, lowest_free, full}
@@ -29,7 +29,7 @@ use Rattle.pair.specs.Whose.{named}
 use Rattle.pair.specs.History.{Scene}
 use Rattle.pair.proofs.Record.Stands.{state_of, Stands, stands_order, live_used}
 use Rattle.pair.proofs.Mirror.Scene.{slot, SlotFor, Mirror}
-use Rattle.pair.proofs.Mirror.Owners.{free-room, full_table}
+use Rattle.pair.proofs.Mirror.Owners.{free_room, full_table}
 
 -- so many bytes of a storage of that length are too few
 abbrev pub too_short : ℕ → Limits → ℕ → ℕ → Bool
@@ -117,7 +117,7 @@ module _ {slots : ℕ} {lim : Limits} {x : Scene} {W : World} (m : Mirror slots 
 
   pub room_full : full (x.world k).end.slots ≡ false → length (W.table k) < slots
   room_full f =
-      free-room (λ i. in_use (slot (x.world k) i).state) (x.book.notes k).owner slots (W.table k) (m.inv.tables k).nodup
+      free_room (λ i. in_use (slot (x.world k) i).state) (x.book.notes k).owner slots (W.table k) (m.inv.tables k).nodup
       (λ n t. let s = (m.at k).found n t in record { index = s.index; within = s.within; busy = s.used; whose = s.owner })
       (lowest_free (x.world k).end.slots) (within _ (lowest_within (x.world k).end.slots f)) (lowest_unused (x.world k).end.slots f)
 

@@ -69,11 +69,11 @@ module _ {slots : ℕ} {lim : Limits} {W : World} {k : Side} {p : Party} {b : No
     abbrev owner' : ℕ → ℕ
     owner' = given (lowest_free p.end.slots) (some n) b.owner
 
-    slot-new : slot p' i ≡ fresh_of sid
-    slot-new = get_or-set_same p.end.slots i (fresh_of sid) free (lowest_within p.end.slots room)
+    slot_new : slot p' i ≡ fresh_of sid
+    slot_new = get_or-set_same p.end.slots i (fresh_of sid) free (lowest_within p.end.slots room)
 
-    slot-old : (j : ℕ) → j ≢ i → slot p' j ≡ slot p j
-    slot-old j d = get_or-set_other p.end.slots i j (fresh_of sid) free d
+    slot_old : (j : ℕ) → j ≢ i → slot p' j ≡ slot p j
+    slot_old j d = get_or-set_other p.end.slots i j (fresh_of sid) free d
 
     -- a slot in use is the new one, or was in use
     data Used (j : ℕ) : Type 0 where
@@ -85,7 +85,7 @@ module _ {slots : ℕ} {lim : Limits} {W : World} {k : Side} {p : Party} {b : No
       where
         by : Eq? j i (eqb j i) → Used j
         by (same q e) = now q (rw e)
-        by (differ q e) = before q (rw (slot-old j q) at u) (rw e)
+        by (differ q e) = before q (rw (slot_old j q) at u) (rw e)
 
     listed' : (j : ℕ) → T (has j (W.table k)) → T (has j (W'.table k))
     listed' j t = rw table (or_right (eqb j n) (has j (W.table k)) t)
@@ -93,13 +93,13 @@ module _ {slots : ℕ} {lim : Limits} {W : World} {k : Side} {p : Party} {b : No
     filled' : (j : ℕ) → j < slots → Used j → Filled lim W' k p' j (owner' j)
     filled' j h (now q o) = rw o (record {
       listed = rw table (has_head n (W.table k));
-      stands = rw (ap (slot p') q ∙ slot-new, name, st, body) (fresh_stands lim j p.storage sid);
+      stands = rw (ap (slot p') q ∙ slot_new, name, st, body) (fresh_stands lim j p.storage sid);
     })
-    filled' j h (before q u o) = rw o (let f = a.filled j h u in filled_kept (slot-old j q) refl (kept (b.owner j) f.listed)
+    filled' j h (before q u o) = rw o (let f = a.filled j h u in filled_kept (slot_old j q) refl (kept (b.owner j) f.listed)
         (listed' (b.owner j) f.listed) f)
 
-    new-within : i < slots
-    new-within = omega (arith, lowest_within p.end.slots room, a.many)
+    new_within : i < slots
+    new_within = omega (arith, lowest_within p.end.slots room, a.many)
 
     -- no slot in use had it
     not_new : (j : ℕ) → j < slots → in_use (slot p j).state ≡ true → b.owner j ≢ n
@@ -115,26 +115,26 @@ module _ {slots : ℕ} {lim : Limits} {W : World} {k : Side} {p : Party} {b : No
     unused' j h u = by (eq? j i)
       where
         by : Eq? j i (eqb j i) → slot p' j ≡ free
-        by (same q e) = never (sym u ∙ ap (λ (x : Session). in_use x.state) (ap (slot p') q ∙ slot-new))
-        by (differ q e) = slot-old j q ∙ a.unused j h (rw (slot-old j q) at u)
+        by (same q e) = never (sym u ∙ ap (λ (x : Session). in_use x.state) (ap (slot p') q ∙ slot_new))
+        by (differ q e) = slot_old j q ∙ a.unused j h (rw (slot_old j q) at u)
 
     found' : (m : ℕ) → (m ≡ n) ⊎ T (has m (W.table k)) → SlotFor slots p' (record { coming = ms; owner = owner' }) m
     found' m (inl q) = record {
       index = i;
-      within = new-within;
-      used = ap (λ (x : Session). in_use x.state) slot-new;
+      within = new_within;
+      used = ap (λ (x : Session). in_use x.state) slot_new;
       owner = rw (eq-eqb i i refl) (sym q);
     }
     found' m (inr t) = let f = a.found m t in by f (eq? f.index i)
       where
         by : (f : SlotFor slots p b m) → Eq? f.index i (eqb f.index i) → SlotFor slots p' (record { coming = ms; owner = owner' }) m
         by f (same q e) = never (sym (lowest_unused p.end.slots room) ∙ (rw q at f.used))
-        by f (differ q e) = record { index = f.index; within = f.within; used = rw (slot-old f.index q) f.used; owner = rw e f.owner }
+        by f (differ q e) = record { index = f.index; within = f.within; used = rw (slot_old f.index q) f.used; owner = rw e f.owner }
 
-    pub new-at : MirrorAt slots lim W' k
+    pub new_at : MirrorAt slots lim W' k
         (record { end = put_of (lowest_free p.end.slots) (fresh_of sid) p.end; storage = p.storage; coming = coming })
         (record { coming = ms; owner = given (lowest_free p.end.slots) (some n) b.owner })
-    new-at = record {
+    new_at = record {
       role = a.role;
       up = a.up;
       many = length-set p.end.slots i (fresh_of sid) ∙ a.many;

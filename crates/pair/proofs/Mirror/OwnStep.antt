@@ -31,7 +31,7 @@ use Rattle.pair.specs.Step.{reached}
 use Rattle.pair.specs.Whose.{Marked, Notes, marked}
 use Rattle.pair.specs.History.{Scene}
 use Rattle.pair.proofs.Bytes.Encoded.{emitted}
-use Rattle.pair.proofs.Record.Stands.{state_of, Stands, stands_used, used-live}
+use Rattle.pair.proofs.Record.Stands.{state_of, Stands, stands_used, used_live}
 use Rattle.pair.proofs.Record.Places.{stands_agree}
 use Rattle.pair.proofs.Record.Does.{After, stands, freed}
 use Rattle.pair.proofs.Mirror.Scene.{slot, mark_of, Filled, SlotFor, MirrorAt, Mirror}
@@ -112,7 +112,7 @@ module _ {slots : ℕ} {lim : Limits} {x : Scene} {W : World} (m : Mirror slots 
   now_listed : in_use (state_of (moved k c (W.lanes n)).out.st) ≡ true → T (has n ((own W k n c).table k))
   now_listed u =
       (inv.tables k).all n (rw (own_bound W n c k k) ((m.inv.tables k).below n t))
-      (own_half W k n c (λ (q : St) (B : Body). T (live q)) (used-live (moved k c (W.lanes n)).out.st u))
+      (own_half W k n c (λ (q : St) (B : Body). T (live q)) (used_live (moved k c (W.lanes n)).out.st u))
 
   still_live : T (has n ((own W k n c).table k)) → T (live (moved k c (W.lanes n)).out.st)
   still_live u = own_half W k n c (λ (q : St) (B : Body). T (live q) → T (live (moved k c (W.lanes n)).out.st)) (λ v. v) ((inv.tables k).alive n u)

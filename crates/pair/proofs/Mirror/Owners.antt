@@ -32,7 +32,7 @@ module _ (used : ℕ → Bool) (owner : ℕ → ℕ) where
       by : (b : Bool) → used n ≡ b → Dec (i < n) → (i < n → used i ≡ true → T (has (owner i) (owners n)))
           → T (has (owner i) (if b (owner n ∷ owners n) (owners n)))
       by true e (yes l) f = or_right (eqb (owner i) (owner n)) (has (owner i) (owners n)) (f l u)
-      by true e (no l) f = let q : i ≡ n = omega arith in rw q (has_head (owner n) (owners n))
+      by true e (no l) f = let q : i ≡ n = omega arith in subst (λ (z : ℕ). T (has (owner z) (owner n ∷ owners n))) (sym q) (has_head (owner n) (owners n))
       by false e (yes l) f = f l u
       by false e (no l) f = let q : i ≡ n = omega arith in never (sym e ∙ sym (ap used q) ∙ u)
 
@@ -86,11 +86,11 @@ module _ (used : ℕ → Bool) (owner : ℕ → ℕ) where
 
   -- a table of lanes that have slots of their own
   module _ (n : ℕ) (t : List ℕ) (once : NoDup t) (found : (j : ℕ) → T (has j t) → Slot used owner n j) where
-    pub free-room : (i : ℕ) → i < n → used i ≡ false → length t < n
-    free-room i h u = omega (arith, pigeon t (owners n) once has-slot, one_less n i h u)
+    pub free_room : (i : ℕ) → i < n → used i ≡ false → length t < n
+    free_room i h u = omega (arith, pigeon t (owners n) once has_slot, one_less n i h u)
       where
-        has-slot : (j : ℕ) → T (has j t) → T (has j (owners n))
-        has-slot j t = let s = found j t in subst (λ (l : ℕ). T (has l (owners n))) s.whose (has_owner n s.index s.within s.busy)
+        has_slot : (j : ℕ) → T (has j t) → T (has j (owners n))
+        has_slot j t = let s = found j t in subst (λ (l : ℕ). T (has l (owners n))) s.whose (has_owner n s.index s.within s.busy)
 
   -- and one that lists the owner of each slot in use
   pub full_table : (n : ℕ) (t : List ℕ) → ((i : ℕ) → i < n → used i ≡ true) → ((i : ℕ) → i < n → T (has (owner i) t))

@@ -129,12 +129,12 @@ in_turn a b c = ap (λ (d : Bool). a || d) (or_comm b c) ∙ sym (or_assoc a c b
 module _ {lim : Limits} {i : ℕ} {storage : List ℕ} {x : Session} {sid : ℕ} {B : Body} where
   module _ {st : St} (a : Stands lim i storage x sid st B) where
     -- G after the read
-    later-g : (p : Bytes) (u : List Bytes) → new_g x ≡ g_of (later B p u) % 2 ^ 32
-    later-g p u = rw (g_is a) (plus_counts (g_of B) 1 ∙ ap (λ (n : ℕ). n % 2 ^ 32) (omega (arith, length-append B.got (p ∷ []))))
+    later_g : (p : Bytes) (u : List Bytes) → new_g x ≡ g_of (later B p u) % 2 ^ 32
+    later_g p u = rw (g_is a) (plus_counts (g_of B) 1 ∙ ap (λ (n : ℕ). n % 2 ^ 32) (omega (arith, length-append B.got (p ∷ []))))
 
     -- the place of the oldest
-    oldest-place : place (oldest x) ≡ place (length B.got + 1 + 0)
-    oldest-place =
+    oldest_place : place (oldest x) ≡ place (length B.got + 1 + 0)
+    oldest_place =
         ap (λ (n : ℕ). place (minus n 3)) (g_is a ∙ ap (λ (n : ℕ). n % 2 ^ 32) (omega arith))
         ∙ ap place (back_counts (length B.got + 1 + 0) 3 (omega arith))
         ∙ place_counts (length B.got + 1 + 0)
@@ -142,28 +142,28 @@ module _ {lim : Limits} {i : ℕ} {storage : List ℕ} {x : Session} {sid : ℕ}
     -- where p is the oldest unread payload
     module _ (p : Bytes) (u : List Bytes) (e : B.unread ≡ p ∷ u) where
       -- its length stands in the record, its bytes in the storage
-      oldest-holds : Lies lim i storage x.lens (oldest x) p
-      oldest-holds =
-          lies_place (oldest x) (length B.got + 1 + 0) oldest-place
+      oldest_holds : Lies lim i storage x.lens (oldest x) p
+      oldest_holds =
+          lies_place (oldest x) (length B.got + 1 + 0) oldest_place
           (subst (λ (q : Bytes). Lies lim i storage x.lens (length B.got + 1 + 0) q) (ap (λ (l : List Bytes). get_or l 0 []) e)
           (a.ring 0 (omega (arith, ap length e))))
 
-      oldest-bytes : oldest_in lim i x storage ≡ p
-      oldest-bytes = ap (λ (n : ℕ). take n (drop (place_start lim.place i (oldest x)) storage)) oldest-holds.long ∙ oldest-holds.bytes
+      oldest_bytes : oldest_in lim i x storage ≡ p
+      oldest_bytes = ap (λ (n : ℕ). take n (drop (place_start lim.place i (oldest x)) storage)) oldest_holds.long ∙ oldest_holds.bytes
 
       -- n is what L becomes
-      read-stands : (n : ℕ) → (read_on x).l ≡ n % 2 ^ 32
+      read_stands : (n : ℕ) → (read_on x).l ≡ n % 2 ^ 32
           → Stands lim i storage (read_on x) sid st (record { sent = B.sent; got = B.got ++ (p ∷ []); unread = u; high = B.high; last = n })
-      read-stands n q = record {
+      read_stands n q = record {
         sid = a.sid;
         state = a.state;
-        counts = l_becomes q (g_becomes (later-g p u) (r_becomes same-r a.counts));
+        counts = l_becomes q (g_becomes (later_g p u) (r_becomes same_r a.counts));
         lengths = a.lengths;
         ring = ring;
       }
         where
-          same-r : x.r ≡ r_of (later B p u) % 2 ^ 32
-          same-r = r_is a ∙ ap (λ (n : ℕ). n % 2 ^ 32) (omega (arith, length-append B.got (p ∷ []), ap length e))
+          same_r : x.r ≡ r_of (later B p u) % 2 ^ 32
+          same_r = r_is a ∙ ap (λ (n : ℕ). n % 2 ^ 32) (omega (arith, length-append B.got (p ∷ []), ap length e))
 
           ring : (j : ℕ) → j < length u → Lies lim i storage x.lens (length (B.got ++ (p ∷ [])) + 1 + j) (get_or u j [])
           ring j h =
@@ -173,12 +173,12 @@ module _ {lim : Limits} {i : ℕ} {storage : List ℕ} {x : Session} {sid : ℕ}
               (a.ring (suc j) (omega (arith, ap length e))))
 
       -- an ACK is due where the half says so
-      pub due-is : Ranges B → notice.due x ≡ established (state_of st) && due (later B p u)
+      pub due_is : Ranges B → notice.due x ≡ established (state_of st) && due (later B p u)
       unfolding notice.due
-      due-is b =
+      due_is b =
           let more : g_of (later B p u) ≡ suc (g_of B) = omega (arith, length-append B.got (p ∷ [])) in
           let past : minus (new_g x) x.l ≡ g_of (later B p u) - B.last =
-          rw (later-g p u, l_is a) (minus_counts B.last (g_of (later B p u)) (omega (arith, b.said)) (omega (arith, b.near))) in
+          rw (later_g p u, l_is a) (minus_counts B.last (g_of (later B p u)) (omega (arith, b.said)) (omega (arith, b.near))) in
           ap (λ (t : State). established t && leb 2 (minus (new_g x) x.l)) a.state
           ∙ ap (λ (n : ℕ). established (state_of st) && leb 2 n) past
           ∙ ap (λ (t : Bool). established (state_of st) && t) (two_past B.last (g_of (later B p u)) (omega (arith, b.said)))
@@ -187,14 +187,14 @@ module _ {lim : Limits} {i : ℕ} {storage : List ℕ} {x : Session} {sid : ℕ}
       nine : (R : Room) (t : Bool) → notice.due x ≡ t → ltb R.pay (oldest_length x) || (notice.due x && ltb R.buf header_length || R.short)
           ≡ ltb R.pay (length p) || (t && ltb R.buf header_length || R.short)
       nine R t d =
-          ap (λ (n : ℕ). ltb R.pay n || (notice.due x && ltb R.buf header_length || R.short)) oldest-holds.long
+          ap (λ (n : ℕ). ltb R.pay n || (notice.due x && ltb R.buf header_length || R.short)) oldest_holds.long
           ∙ ap (λ (t : Bool). ltb R.pay (length p) || (t && ltb R.buf header_length || R.short)) d
 
       some_unread : Ranges B → fin_sent (state_of st) ≡ false → in_use (state_of st) ≡ true → eqb (unread x) 0 ≡ false
       some_unread b f v = ne_eqb (unread x) 0 (λ z. omega (arith, unread_counts a b f v, ap length e))
 
-    no-unread : Ranges B → fin_sent (state_of st) ≡ false → in_use (state_of st) ≡ true → B.unread ≡ [] → eqb (unread x) 0 ≡ true
-    no-unread b f v e = eq-eqb (unread x) 0 (unread_counts a b f v ∙ ap length e)
+    no_unread : Ranges B → fin_sent (state_of st) ≡ false → in_use (state_of st) ≡ true → B.unread ≡ [] → eqb (unread x) 0 ≡ true
+    no_unread b f v e = eq-eqb (unread x) 0 (unread_counts a b f v ∙ ap length e)
 
     -- the tests of 8 and 11 go by the half's state
     eight : established x.state && eqb (unread x) 0 ≡ established (state_of st) && eqb (unread x) 0
@@ -207,14 +207,14 @@ module _ {lim : Limits} {i : ℕ} {storage : List ℕ} {x : Session} {sid : ℕ}
     emits : (t : Bool) → notice.due x ≡ t → ack_on x ≡ if t (header_bytes (ack_header x)) []
     emits t d = ap (λ (t : Bool). if t (header_bytes (ack_header x)) []) d
 
-    new-l : (t : Bool) → notice.due x ≡ t → (read_on x).l ≡ if (t || fin_received (state_of st)) (new_g x) x.l
-    new-l t d =
+    new_l : (t : Bool) → notice.due x ≡ t → (read_on x).l ≡ if (t || fin_received (state_of st)) (new_g x) x.l
+    new_l t d =
         ap (λ (t : Bool). if (t || fin_received x.state) (new_g x) x.l) d
         ∙ ap (λ (s : State). if (t || fin_received s) (new_g x) x.l) a.state
 
   read_est : (R : Room) → Ranges B → Stands lim i storage x sid est B → (l : List Bytes) → B.unread ≡ l
       → Does (Reads lim i storage x sid) est B (read_cases x R.pay R.buf R.short) (read_e l R B)
-  read_est R b a [] e = does_skip (ap fin_sent a.state) (does_stop (eight a ∙ no-unread a b refl refl e) (omega arith))
+  read_est R b a [] e = does_skip (ap fin_sent a.state) (does_stop (eight a ∙ no_unread a b refl refl e) (omega arith))
   read_est R b a (p ∷ u) e =
       does_skip (ap fin_sent a.state)
       (does_skip (eight a ∙ some_unread a p u e b refl refl)
@@ -224,34 +224,34 @@ module _ {lim : Limits} {i : ℕ} {storage : List ℕ} {x : Session} {sid : ℕ}
       (one_all (Does (Reads lim i storage x sid) est B []) B (later B p u) p
       (λ t. does_done (noticed (later B p u) p) refl (record {
         done = record {
-          after = stands refl (read-stands a p u e _ (new-l a true (is ∙ T_true _ t) ∙ later-g a p u));
+          after = stands refl (read_stands a p u e _ (new_l a true (is ∙ T_true _ t) ∙ later_g a p u));
           packet = packet (is ∙ T_true _ t);
-          payload = oldest-bytes a p u e;
+          payload = oldest_bytes a p u e;
         };
-        long = (oldest-holds a p u e).long;
+        long = (oldest_holds a p u e).long;
       }))
       (λ t. does_done (quiet (later B p u) p) refl (record {
         done = record {
-          after = stands refl (read-stands a p u e _ (new-l a false (is ∙ T_not _ t) ∙ l_is a));
+          after = stands refl (read_stands a p u e _ (new_l a false (is ∙ T_not _ t) ∙ l_is a));
           packet = emits a false (is ∙ T_not _ t);
-          payload = oldest-bytes a p u e;
+          payload = oldest_bytes a p u e;
         };
-        long = (oldest-holds a p u e).long;
+        long = (oldest_holds a p u e).long;
       }))))))
     where
       is : notice.due x ≡ due (later B p u)
-      is = due-is a p u e b
+      is = due_is a p u e b
 
       packet : notice.due x ≡ true → ack_on x ≡ packet_for sid (ack (s_of B) (g_of (later B p u)))
       packet d =
           emits a true d
-          ∙ ap header_bytes (header_counts Ack header_length a.sid (s_is a) (later-g a p u))
+          ∙ ap header_bytes (header_counts Ack header_length a.sid (s_is a) (later_g a p u))
           ∙ sym (append-nil (header_bytes (header_for sid (ack (s_of B) (g_of (later B p u))))))
 
   read_fr : (R : Room) → Ranges B → Stands lim i storage x sid fr B → (l : List Bytes) → B.unread ≡ l
       → Does (Reads lim i storage x sid) fr B (read_cases x R.pay R.buf R.short) (read_r l R B)
   read_fr R b a [] e =
-      does_skip (ap fin_sent a.state) (does_skip (eight a) (does_stop (eleven a ∙ no-unread a b refl refl e) (omega arith)))
+      does_skip (ap fin_sent a.state) (does_skip (eight a) (does_stop (eleven a ∙ no_unread a b refl refl e) (omega arith)))
   read_fr R b a (p ∷ u) e =
       does_skip (ap fin_sent a.state)
       (does_skip (eight a)
@@ -259,15 +259,15 @@ module _ {lim : Limits} {i : ℕ} {storage : List ℕ} {x : Session} {sid : ℕ}
       (does_test (cramped R p) (read_last (later B p u) p) (nine a p u e R false is) (omega arith)
       (does_done (read_last (later B p u) p) refl (record {
         done = record {
-          after = stands refl (read-stands a p u e _ (new-l a false is ∙ later-g a p u));
+          after = stands refl (read_stands a p u e _ (new_l a false is ∙ later_g a p u));
           packet = emits a false is;
-          payload = oldest-bytes a p u e;
+          payload = oldest_bytes a p u e;
         };
-        long = (oldest-holds a p u e).long;
+        long = (oldest_holds a p u e).long;
       })))))
     where
       is : notice.due x ≡ false
-      is = due-is a p u e b
+      is = due_is a p u e b
 
   pub read_does : (s : St) → Stands lim i storage x sid s B → Ranges B → in_use (state_of s) ≡ true → (R : Room)
       → Does (Reads lim i storage x sid) s B (read_cases x R.pay R.buf R.short) (read R s B)

@@ -53,11 +53,11 @@ live_used fs t = refl
 live_used fr t = refl
 live_used gone t = absurd t
 
-pub used-live : (s : St) → in_use (state_of s) ≡ true → T (live s)
-used-live est u = tt
-used-live fs u = tt
-used-live fr u = tt
-used-live gone u = never u
+pub used_live : (s : St) → in_use (state_of s) ≡ true → T (live s)
+used_live est u = tt
+used_live fs u = tt
+used_live fr u = tt
+used_live gone u = never u
 
 -- and keeps what arrives unless it has closed
 pub open_keeps : (s : St) → fin_sent (state_of s) ≡ false → in_use (state_of s) ≡ true → T (keeps s)

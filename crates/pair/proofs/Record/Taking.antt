@@ -72,9 +72,9 @@ next_is B q b p =
 
 module _ {lim : Limits} {i : ℕ} {storage : List ℕ} {x : Session} {sid : ℕ} {B : Body} where
   module _ {s : St} (a : Stands lim i storage x sid s B) (b : Ranges B) where
-    wndw-passes : window ≤ lim.window → (v : ℕ) → win_ok B v ≡ true → window_in_range lim.window x (v % 2 ^ 32) ≡ true
+    wndw_passes : window ≤ lim.window → (v : ℕ) → win_ok B v ≡ true → window_in_range lim.window x (v % 2 ^ 32) ≡ true
     unfolding window_in_range
-    wndw-passes wide v p =
+    wndw_passes wide v p =
         let both = and_split (leb B.high v) (leb v (s_of B + 4)) p in
         let low : B.high ≤ v = leb-true B.high v both.0 in
         let top : v ≤ s_of B + 4 = leb-true v (s_of B + 4) both.1 in
@@ -84,9 +84,9 @@ module _ {lim : Limits} {i : ℕ} {storage : List ℕ} {x : Session} {sid : ℕ}
         (le-leb (minus x.h x.s) (minus (v % 2 ^ 32) x.s) (omega arith))
         (le-leb (minus (v % 2 ^ 32) x.s) lim.window (omega arith))
 
-    seqnum-passes : (k : Kind) (q : ℕ) → is_data k && established (state_of s) ≡ false → seq_ok B q ≡ true → seqnum_in_range x k (q % 2 ^ 32) ≡ true
+    seqnum_passes : (k : Kind) (q : ℕ) → is_data k && established (state_of s) ≡ false → seq_ok B q ≡ true → seqnum_in_range x k (q % 2 ^ 32) ≡ true
     unfolding seqnum_in_range
-    seqnum-passes k q f p =
+    seqnum_passes k q f p =
         let both = and_split (leb (r_of B) q) (leb q (g_of B)) p in
         let low : r_of B ≤ q = leb-true (r_of B) q both.0 in
         let top : q ≤ g_of B = leb-true q (g_of B) both.1 in
@@ -117,14 +117,14 @@ module _ {lim : Limits} {i : ℕ} {storage : List ℕ} {x : Session} {sid : ℕ}
       → first (other_cases lim (kind_of pk) true x (header_for sid pk)) ≡ 0
   ranged_number wide pk o a b f d z =
       let c = passed (win_ok B (wndw_of pk)) (seq_ok B (seqnum_of pk)) B o z in
-      number a b (kind_of pk) (header_for sid pk) f (wndw-passes a b wide (wndw_of pk) c.0) (seqnum-passes a b (kind_of pk) (seqnum_of pk) d c.1)
+      number a b (kind_of pk) (header_for sid pk) f (wndw_passes a b wide (wndw_of pk) c.0) (seqnum_passes a b (kind_of pk) (seqnum_of pk) d c.1)
 
   -- a packet that the half takes, the record takes
   pub take_number_lem : window ≤ lim.window → (s : St) (pk : Packet) → Stands lim i storage x sid s B → Ranges B → (take s pk B).ans ≡ 0
       → first (other_cases lim (kind_of pk) true x (header_for sid pk)) ≡ 0
   take_number_lem wide est (dat q v p) a b z =
       let c = passed (win_ok B v) (next_ok B q) B (plain est (stored B v p)) z in
-      number a b Data (header_for sid (dat q v p)) refl (wndw-passes a b wide v c.0) (data_passes a b q (next_is B q b c.1))
+      number a b Data (header_for sid (dat q v p)) refl (wndw_passes a b wide v c.0) (data_passes a b q (next_is B q b c.1))
   take_number_lem wide est (ack q v) a b z = ranged_number wide (ack q v) (plain est (raised B v)) a b refl refl z
   take_number_lem wide est (fin q v) a b z = ranged_number wide (fin q v) (plain fr (raised B v)) a b refl refl z
   take_number_lem wide fs (dat q v p) a b z = ranged_number wide (dat q v p) (plain fs B) a b refl refl z
@@ -157,7 +157,7 @@ module _ {lim : Limits} {i : ℕ} {storage : List ℕ} {x : Session} {sid : ℕ}
   stored_stands a q v p nx slots slot long b n e limit enough f = record {
     sid = a.sid;
     state = a.state;
-    counts = r_becomes new-r (h_becomes refl a.counts);
+    counts = r_becomes new_r (h_becomes refl a.counts);
     lengths = record { four = length-set x.lens (place w) n ∙ a.lengths.four; small = small };
     ring = λ (j : ℕ) (h : j < length (B.unread ++ (p ∷ []))). ring j h (dec_lt j (length B.unread));
   }
@@ -166,8 +166,8 @@ module _ {lim : Limits} {i : ℕ} {storage : List ℕ} {x : Session} {sid : ℕ}
       w : ℕ
       w = q % 2 ^ 32
 
-      new-r : w ≡ r_of (stored B v p) % 2 ^ 32
-      new-r = ap (λ (m : ℕ). m % 2 ^ 32) (omega (arith, nx.next, length-append B.unread (p ∷ [])))
+      new_r : w ≡ r_of (stored B v p) % 2 ^ 32
+      new_r = ap (λ (m : ℕ). m % 2 ^ 32) (omega (arith, nx.next, length-append B.unread (p ∷ [])))
 
       small : (k : ℕ) → k < 4 → get_or (set x.lens (place w) n) k 0 ≤ lim.place
       small k h = by (eqb k (place w)) refl

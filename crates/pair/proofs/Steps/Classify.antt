@@ -26,14 +26,14 @@ use Rattle.pair.specs.Side.{Side, client, server}
 use Rattle.pair.proofs.Lane.Outcomes.{harmless}
 use Rattle.pair.proofs.Lane.World.{Item, syn, pkt, World}
 use Rattle.pair.proofs.Lane.Acts.{Act}
-use Rattle.pair.proofs.Lane.Heads.{no_syn_lem, syn-born, syn-known}
+use Rattle.pair.proofs.Lane.Heads.{no_syn_lem, syn_born, syn_known}
 use Rattle.pair.specs.World.{Party}
 use Rattle.pair.specs.Step.{Call, Open, Send, Read, Close, Take, Step}
 use Rattle.pair.specs.Whose.{Marked, named, sender}
 use Rattle.pair.specs.History.{Scene}
-use Rattle.pair.proofs.Bytes.CallAt.{open_on, open_answer_lem, open_packet_lem, send-none-answer, send-none-packet, read-none-answer, read-none-payload}
-use Rattle.pair.proofs.Bytes.CallAt.{read-none-ack, close-none-answer, close-none-packet}
-use Rattle.pair.proofs.Bytes.TakeFront.{waits_answer, waits_storage, nothing_number, packet_cut, packet-number, syn_cut, syn-number}
+use Rattle.pair.proofs.Bytes.CallAt.{open_on, open_answer_lem, open_packet_lem, send_none_answer, send_none_packet, read_none_answer, read_none_payload}
+use Rattle.pair.proofs.Bytes.CallAt.{read_none_ack, close_none_answer, close_none_packet}
+use Rattle.pair.proofs.Bytes.TakeFront.{waits_answer, waits_storage, nothing_number, packet_cut, packet_number, syn_cut, syn_number}
 use Rattle.pair.proofs.Mirror.Scene.{mark_of, Mirror}
 use Rattle.pair.proofs.Mirror.Facts.{made_at, held_lane, room_full, short_is}
 use Rattle.pair.proofs.Mirror.Channels.{stream_empty, bytes_of, all_bytes, front_bytes, packet_low, packet_small}
@@ -64,9 +64,9 @@ module _ {slots : ℕ} {lim : Limits} {x : Scene} {W : World} (m : Mirror slots 
     abbrev e : End
     e = (x.world k).end
 
-    open-rests : (n : ℕ) → 0 < n → T (harmless n) → first (open_on e.role (full e.slots) room) ≡ n
+    open_rests : (n : ℕ) → 0 < n → T (harmless n) → first (open_on e.role (full e.slots) room) ≡ n
         → Rested slots lim x W (record { side = k; call = Open room })
-    open-rests n low mild q = rests m (record { side = k; call = Open room }) n 0 (λ _. low) mild (rw (answer, packet))
+    open_rests n low mild q = rests m (record { side = k; call = Open room }) n 0 (λ _. low) mild (rw (answer, packet))
         (rw answer (done_not n _ none (omega arith)))
       where
         answer : open_of lim e room ≡ open_refused n e
@@ -76,15 +76,15 @@ module _ {slots : ℕ} {lim : Limits} {x : Scene} {W : World} (m : Mirror slots 
         packet = open_packet_lem lim e (made_at m k) (m.at k).up room ∙ rw q (done_not n _ _ (omega arith))
 
   opens : (k : Side) (room : ℕ) → Comes slots lim x W k (Open room)
-  opens server room = inl (open-rests server room 2 (omega arith) tt (says (here (ap is_server (m.at server).role))))
+  opens server room = inl (open_rests server room 2 (omega arith) tt (says (here (ap is_server (m.at server).role))))
   opens client room = by (full (x.world client).end.slots) refl (dec_lt room header_length)
     where
       role : is_server (x.world client).end.role ≡ false
       role = ap is_server (m.at client).role
 
       by : (b : Bool) → full (x.world client).end.slots ≡ b → Dec (room < header_length) → Comes slots lim x W client (Open room)
-      by true f d = inl (open-rests client room 3 (omega arith) tt (says (skip role (here f))))
-      by false f (yes l) = inl (open-rests client room 9 (omega arith) tt (says (skip role (skip f (here (lt-ltb room header_length l))))))
+      by true f d = inl (open_rests client room 3 (omega arith) tt (says (skip role (here f))))
+      by false f (yes l) = inl (open_rests client room 9 (omega arith) tt (says (skip role (skip f (here (lt-ltb room header_length l))))))
       by false f (no l) = inr (_, opening {room = room} (omega arith) (room_full m client f))
 
   -- ---- send, read, close
@@ -101,25 +101,25 @@ module _ {slots : ℕ} {lim : Limits} {x : Scene} {W : World} (m : Mirror slots 
     sends payload room true h = inr (_, sending (held_lane m k sid h))
     sends payload room false h = inl (rests m (record { side = k; call = Send sid payload room }) 4 0 (λ _. omega arith) tt
         (rw (
-          send-none-answer lim p.end (made_at m k) (m.at k).up sid h payload room,
-          send-none-packet lim p.end (made_at m k) (m.at k).up sid h payload room,
+          send_none_answer lim p.end (made_at m k) (m.at k).up sid h payload room,
+          send_none_packet lim p.end (made_at m k) (m.at k).up sid h payload room,
         )) (nobody h))
 
     reads : (room ack lent : ℕ) (b : Bool) → holds sid p.end.slots ≡ b → Comes slots lim x W k (Read sid room ack lent)
     reads room ack lent true h = inr (_, reading (held_lane m k sid h))
     reads room ack lent false h = inl (rests m (record { side = k; call = Read sid room ack lent }) 4 0 (λ _. omega arith) tt
         (rw (
-          read-none-answer lim p.end (made_at m k) (m.at k).up sid h room ack (length (take lent p.storage)),
-          read-none-payload lim p.end (made_at m k) (m.at k).up sid h room ack (take lent p.storage),
-          read-none-ack lim p.end (made_at m k) (m.at k).up sid h room ack (length (take lent p.storage)),
+          read_none_answer lim p.end (made_at m k) (m.at k).up sid h room ack (length (take lent p.storage)),
+          read_none_payload lim p.end (made_at m k) (m.at k).up sid h room ack (take lent p.storage),
+          read_none_ack lim p.end (made_at m k) (m.at k).up sid h room ack (length (take lent p.storage)),
         )) (nobody h))
 
     closes : (room : ℕ) (b : Bool) → holds sid p.end.slots ≡ b → Comes slots lim x W k (Close sid room)
     closes room true h = inr (_, closing (held_lane m k sid h))
     closes room false h = inl (rests m (record { side = k; call = Close sid room }) 4 0 (λ _. omega arith) tt
         (rw (
-          close-none-answer lim p.end (made_at m k) (m.at k).up sid h room,
-          close-none-packet lim p.end (made_at m k) (m.at k).up sid h room,
+          close_none_answer lim p.end (made_at m k) (m.at k).up sid h room,
+          close_none_packet lim p.end (made_at m k) (m.at k).up sid h room,
         )) (nobody h))
 
   -- ---- take
@@ -134,8 +134,8 @@ module _ {slots : ℕ} {lim : Limits} {x : Scene} {W : World} (m : Mirror slots 
     abbrev short : Bool
     short = short_storage lim q.end (length (take lent q.storage))
 
-    take-rests : (b : Bool) → number q.coming ≡ if b 9 10 → Rested slots lim x W (record { side = k; call = Take given lent })
-    take-rests b n =
+    take_rests : (b : Bool) → number q.coming ≡ if b 9 10 → Rested slots lim x W (record { side = k; call = Take given lent })
+    take_rests b n =
         let bytes = take given q.coming in
         rests m (record { side = k; call = Take given lent }) (if b 9 10) (if (eqb (if b 9 10) 10) (missing bytes) 0)
         (λ _. either (λ (n : ℕ). 0 < n) b (omega arith) (omega arith)) (either (λ (n : ℕ). T (harmless n)) b tt tt)
@@ -156,8 +156,8 @@ module _ {slots : ℕ} {lim : Limits} {x : Scene} {W : World} (m : Mirror slots 
     heads {i} head cut whole then = by (dec_lt given (length (mark_of W.sid i).bytes)) short refl
       where
         by : Dec (given < length (mark_of W.sid i).bytes) → (b : Bool) → short ≡ b → Comes slots lim x W k (Take given lent)
-        by (yes l) b s = inl (take-rests short (ap number (front_bytes (m.at k) head) ∙ cut l))
-        by (no l) true s = inl (take-rests true (ap number (front_bytes (m.at k) head) ∙ whole (omega arith) s))
+        by (yes l) b s = inl (take_rests short (ap number (front_bytes (m.at k) head) ∙ cut l))
+        by (no l) true s = inl (take_rests true (ap number (front_bytes (m.at k) head) ∙ whole (omega arith) s))
         by (no l) false s = then (record { whole = omega arith; long = sym (short_is m k lent) ∙ s })
 
   module _ (given lent : ℕ) where
@@ -168,14 +168,14 @@ module _ {slots : ℕ} {lim : Limits} {x : Scene} {W : World} (m : Mirror slots 
     takes : (k : Side) (l : List Item) → W.chan k ≡ l → Comes slots lim x W k (Take given lent)
     takes k [] head =
         let nothing_there : (x.world k).coming ≡ [] = all_bytes (m.at k) ∙ ap (bytes_of W) head ∙ stream_empty (λ (y : Marked). y.bytes) in
-        inl (take-rests k given lent (short k given lent)
+        inl (take_rests k given lent (short k given lent)
         (ap (number k given lent) nothing_there ∙ nothing_number lim (x.world k).end (made_at m k) (m.at k).up given (st k)))
     takes client (syn n ∷ l) head = absurd (no_syn_lem m.inv n l head)
     takes server (syn n ∷ l) head =
-        let low : W.sid n < 2 ^ 16 = m.low n (syn-born m.inv n l head) in
+        let low : W.sid n < 2 ^ 16 = m.low n (syn_born m.inv n l head) in
         heads server given lent head
         (λ c. syn_cut lim m.sizes.fits (x.world server).end (made_at m server) (m.at server).up (W.sid n) low (bytes_of W l) given c (st server))
-        (λ c s. syn-number lim m.sizes.fits (x.world server).end (made_at m server) (m.at server).up (W.sid n) low (bytes_of W l) given c (st server)
+        (λ c s. syn_number lim m.sizes.fits (x.world server).end (made_at m server) (m.at server).up (W.sid n) low (bytes_of W l) given c (st server)
         ∙ rw s)
         (λ g. inr (_, greeting head g))
     takes k (pkt n p ∷ l) head =
@@ -183,7 +183,7 @@ module _ {slots : ℕ} {lim : Limits} {x : Scene} {W : World} (m : Mirror slots 
         let fits = packet_small m head in
         heads k given lent head
         (λ c. packet_cut lim m.sizes.fits (x.world k).end (made_at m k) (m.at k).up (W.sid n) low p fits (bytes_of W l) given c (st k))
-        (λ c s. packet-number lim m.sizes.fits (x.world k).end (made_at m k) (m.at k).up (W.sid n) low p fits (bytes_of W l) given c (st k) ∙ rw s)
+        (λ c s. packet_number lim m.sizes.fits (x.world k).end (made_at m k) (m.at k).up (W.sid n) low p fits (bytes_of W l) given c (st k) ∙ rw s)
         (λ g. inr (_, taking head g))
 
 -- THEOREM: each step performs an act or rests
@@ -203,7 +203,7 @@ pub performs_acts : {slots : ℕ} {lim : Limits} {x : Scene} {W : World} {s : St
     → Acted slots lim x W s a
 performs_acts m (opening {room = room} long few) = acted_opening m room long few
 performs_acts {slots} {lim} {x} {W} m (greeting {given = given} {lent} {n} {l} head g) =
-    let known : n ≡ W.known = syn-known m.inv n l head in
+    let known : n ≡ W.known = syn_known m.inv n l head in
     acted_greeting m given lent (rw known at head) (rw known at g)
 performs_acts m (taking {given = given} {lent} head g) = acted_taking m head given lent g
 performs_acts m (sending {room = room} {p} a) = acted_sending m a p room

@@ -23,7 +23,7 @@ use Rattle.pair.specs.World.{Party}
 use Rattle.pair.specs.Step as step
 use Rattle.pair.specs.Step.{Close, emitting, did}
 use Rattle.pair.specs.History.{Scene}
-use Rattle.pair.proofs.Bytes.CallAt.{close-answer, close-packet}
+use Rattle.pair.proofs.Bytes.CallAt.{close_answer_lem, close_packet_lem}
 use Rattle.pair.proofs.Record.Calls.{close_does}
 use Rattle.pair.proofs.Mirror.Scene.{slot, SlotFor, Mirror}
 use Rattle.pair.proofs.Mirror.Facts.{lane_used, made_at, lane_at, lane_stands, named_is, Names}
@@ -46,8 +46,8 @@ close_outcome : {slots : ℕ} {lim : Limits} {x : Scene} {W : World} (m : Mirror
 close_outcome {lim = lim} {x} {W} m {k} {n} t f room =
     let p = x.world k in
     let s = slot p f.index in
-    let answer = close-answer lim p.end (made_at m k) (m.at k).up (W.sid n) f.index (lane_at m k n t f) room in
-    let packet = close-packet lim p.end (made_at m k) (m.at k).up (W.sid n) f.index (lane_at m k n t f) room in
+    let answer = close_answer_lem lim p.end (made_at m k) (m.at k).up (W.sid n) f.index (lane_at m k n t f) room in
+    let packet = close_packet_lem lim p.end (made_at m k) (m.at k).up (W.sid n) f.index (lane_at m k n t f) room in
     outcome (lane_stands m k n f) (lane_used m k n t) _ (close_does (st_of k (W.lanes n)) (lane_stands m k n f) (lane_used m k n t) (close_room room)) (λ d. d)
     (λ z d. ap₂ (gives p) (answer ∙ done_0 _ _ _ z) (packet ∙ done_0 _ _ _ z)
     ∙ ap (λ (l : ℕ). gives p (record { number = 0; length = l; end = put_of f.index (closed_on s) p.end }) (header_bytes (fin_header s)))

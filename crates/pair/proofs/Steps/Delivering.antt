@@ -23,23 +23,23 @@ use Rattle.pair.specs.Side.{Side}
 use Rattle.pair.proofs.Lane.Half.{Packet, Out}
 use Rattle.pair.proofs.Lane.Half as half'
 use Rattle.pair.proofs.Lane.Lane.{Lane, deliver, deliver_to, half, st_of, moved}
-use Rattle.pair.proofs.Lane.Story.{head-taken}
+use Rattle.pair.proofs.Lane.Story.{head_taken}
 use Rattle.pair.proofs.Lane.Tables.{has}
 use Rattle.pair.proofs.Lane.World.{Item, pkt, pick, World}
 use Rattle.pair.proofs.Lane.Acts.{turn}
-use Rattle.pair.proofs.Lane.Heads.{packet-toward, packet-zero, packet_held}
+use Rattle.pair.proofs.Lane.Heads.{packet_toward, packet_zero, packet_held}
 use Rattle.pair.specs.Step.{Take, Step, did, acted}
 use Rattle.pair.specs.Whose.{Marked, left, owners}
 use Rattle.pair.specs.History.{Scene, whose_in}
 use Rattle.pair.proofs.Bytes.Encoded.{kind_of, payload_of, header_for, packet_for, packet_size, not_syn}
-use Rattle.pair.proofs.Bytes.TakeAt.{held_cases, take_on, taken-answer, taken-storage}
+use Rattle.pair.proofs.Bytes.TakeAt.{held_cases, take_on, taken_answer_lem, taken_storage_lem}
 use Rattle.pair.proofs.Record.Stands.{Stands}
 use Rattle.pair.proofs.Record.Places.{Lent, kept_length, kept_others, kept_lent}
 use Rattle.pair.proofs.Record.Does.{After}
 use Rattle.pair.proofs.Record.Taking.{take_number_lem, take_after, packet_lent}
 use Rattle.pair.proofs.Mirror.Scene.{slot, SlotFor, Mirror}
 use Rattle.pair.proofs.Mirror.Facts.{made_at, lane_at, lane_stands, ranges_of, short_is}
-use Rattle.pair.proofs.Mirror.Channels.{bytes_of, front-sender, front_rest, front_bytes, front-leaves, packet_low, packet_small}
+use Rattle.pair.proofs.Mirror.Channels.{bytes_of, front_sender, front_rest, front_bytes, front_leaves, packet_low, packet_small}
 use Rattle.pair.proofs.Mirror.OwnStep.{OwnStep}
 use Rattle.pair.proofs.Steps.Performs.{Given, Acted}
 use Rattle.pair.proofs.Steps.OwnCall.{acted_own}
@@ -61,10 +61,10 @@ module _ {slots : ℕ} {lim : Limits} {x : Scene} {W : World} (m : Mirror slots 
   L = W.lanes n
 
   out_is : (moved k deliver L).out ≡ half'.take (st_of k L) p (half k L)
-  out_is = ap (λ (q : List Packet). (deliver_to q (st_of k L) (half k L)).out) (packet-toward m.inv k n p l head)
+  out_is = ap (λ (q : List Packet). (deliver_to q (st_of k L) (half k L)).out) (packet_toward m.inv k n p l head)
 
   zero' : (half'.take (st_of k L) p (half k L)).ans ≡ 0
-  zero' = ap (λ (o : Out). o.ans) (sym out_is) ∙ packet-zero m.inv k n p l head
+  zero' = ap (λ (o : Out). o.ans) (sym out_is) ∙ packet_zero m.inv k n p l head
 
   -- ---- its slot
 
@@ -96,7 +96,7 @@ module _ {slots : ℕ} {lim : Limits} {x : Scene} {W : World} (m : Mirror slots 
       (put_of taking_slot.index (taken_on (kind_of p) (header_for (W.sid n) p) (slot (x.world k) taking_slot.index)) (x.world k).end)
   taking_answer =
       ap (λ (b : List ℕ). take_of lim e (take given b) (length (take lent storage))) (front_bytes (m.at k) head)
-      ∙ taken-answer lim m.sizes.fits e (made_at m k) (m.at k).up sid (packet_low m head) p (packet_small m head) (bytes_of W l) given g.whole i
+      ∙ taken_answer_lem lim m.sizes.fits e (made_at m k) (m.at k).up sid (packet_low m head) p (packet_small m head) (bytes_of W l) given g.whole i
       (lane_at m k n taking_listed taking_slot) clear (length (take lent storage)) short
 
   enough : storage_length lim.place slots ≤ length (take lent storage)
@@ -119,7 +119,7 @@ module _ {slots : ℕ} {lim : Limits} {x : Scene} {W : World} (m : Mirror slots 
       let c = cell_of y.state (kind_of p) in
       ap (λ (b : List ℕ). take_storage lim e (take given b) (take lent storage) ++ drop lent storage) (front_bytes (m.at k) head)
       ∙ ap (λ (s : List ℕ). s ++ drop lent storage)
-      (taken-storage lim m.sizes.fits e (made_at m k) (m.at k).up sid (packet_low m head) p (packet_small m head) (bytes_of W l) given g.whole i
+      (taken_storage_lem lim m.sizes.fits e (made_at m k) (m.at k).up sid (packet_low m head) p (packet_small m head) (bytes_of W l) given g.whole i
       (lane_at m k n taking_listed taking_slot) clear (take lent storage) short)
       ∙ kept_lent c (take lent storage) (drop lent storage) (lent_in (take lent storage) enough)
       ∙ ap (kept lim c i (header_for sid p) (packet_for sid p)) (take-append-drop lent storage)
@@ -130,7 +130,7 @@ module _ {slots : ℕ} {lim : Limits} {x : Scene} {W : World} (m : Mirror slots 
   become = rw out_is (take_after (st_of k L) p stands (ranges_of m k n) zero' taking_lent)
 
   quiet : (moved k deliver L).out.emit ≡ none
-  quiet = (head-taken L (m.inv.good n) k p (pick n l) (packet-toward m.inv k n p l head)).quiet
+  quiet = (head_taken L (m.inv.good n) k p (pick n l) (packet_toward m.inv k n p l head)).quiet
 
   abbrev step : Step
   step = record { side = k; call = Take given lent }
@@ -147,9 +147,9 @@ module _ {slots : ℕ} {lim : Limits} {x : Scene} {W : World} (m : Mirror slots 
     become = rw taking_storage become;
     owner = rw (taking_answer, not_syn p);
     marks = rw taking_answer (front_rest (m.at k) head ∙ rw head);
-    bytes = rw taking_answer (front-leaves (m.at k) head (header_length + length (payload_of p)) (packet_size sid p)
+    bytes = rw taking_answer (front_leaves (m.at k) head (header_length + length (payload_of p)) (packet_size sid p)
         ∙ ap (flat_map (λ (a : Marked). a.bytes)) (sym (front_rest (m.at k) head)));
-    whose = rw taking_answer (front-sender (m.at k) head);
+    whose = rw taking_answer (front_sender (m.at k) head);
     packet = rw quiet;
     small = rw quiet tt;
   }
@@ -157,5 +157,5 @@ module _ {slots : ℕ} {lim : Limits} {x : Scene} {W : World} (m : Mirror slots 
   pub acted_taking : Acted slots lim x W (record { side = k; call = Take given lent }) (turn k n deliver)
   acted_taking =
       acted_own m taking_listed (record { packet = p; tail = l; eq = head }) taking_slot (Take given lent) own_step refl
-      (rw (taking_answer, packet-toward m.inv k n p l head, packet_size sid p))
+      (rw (taking_answer, packet_toward m.inv k n p l head, packet_size sid p))
       (ap length taking_storage ∙ kept_length (cell_of y.state (kind_of p)) taking_lent)

@@ -19,7 +19,7 @@ use Rattle.pair.specs.Side.{Side, client, server}
 use Rattle.pair.proofs.Lane.Tables.{has, false_T}
 use Rattle.pair.proofs.Lane.World.{Item, syn, World, welcomed}
 use Rattle.pair.proofs.Lane.Acts.{greet}
-use Rattle.pair.proofs.Lane.Heads.{syn-born, syn-new, syn-room}
+use Rattle.pair.proofs.Lane.Heads.{syn_born, syn_new, syn_room}
 use Rattle.pair.proofs.Lane.Sides.{Kept}
 use Rattle.pair.proofs.Lane.Begin.{welcomed_inv}
 use Rattle.pair.specs.Step.{Take, Step}
@@ -29,8 +29,8 @@ use Rattle.pair.proofs.Bytes.Encoded.{syn_for, syn_size}
 use Rattle.pair.proofs.Bytes.TakeAt.{begun_answer, begun_storage}
 use Rattle.pair.proofs.Mirror.Scene.{MirrorAt, Mirror}
 use Rattle.pair.proofs.Mirror.Facts.{made_at, none_listed, full_room, short_is}
-use Rattle.pair.proofs.Mirror.Channels.{Channel, marks_of, bytes_of, front-sender, front_rest, front_bytes, front-leaves}
-use Rattle.pair.proofs.Mirror.NewLane.{stays_at, new-at}
+use Rattle.pair.proofs.Mirror.Channels.{Channel, marks_of, bytes_of, front_sender, front_rest, front_bytes, front_leaves}
+use Rattle.pair.proofs.Mirror.NewLane.{stays_at, new_at}
 use Rattle.pair.proofs.Steps.Performs.{Given, Lengths, Acted}
 
 module _ {slots : ℕ} {lim : Limits} {x : Scene} {W : World} (m : Mirror slots lim x W) (given' lent : ℕ) {l : List Item}
@@ -45,13 +45,13 @@ module _ {slots : ℕ} {lim : Limits} {x : Scene} {W : World} (m : Mirror slots 
   storage = (x.world server).storage
 
   low : sid < 2 ^ 16
-  low = m.low W.known (syn-born m.inv W.known l head)
+  low = m.low W.known (syn_born m.inv W.known l head)
 
   new : holds sid e.slots ≡ false
-  new = none_listed m server sid (syn-new m.inv W.known l head)
+  new = none_listed m server sid (syn_new m.inv W.known l head)
 
   pub greeting_room : full (x.world server).end.slots ≡ false
-  greeting_room = full_room m server (syn-room m.inv W.known l head)
+  greeting_room = full_room m server (syn_room m.inv W.known l head)
 
   long : short_storage lim e (length (take lent storage)) ≡ false
   long = short_is m server lent ∙ g.long
@@ -86,7 +86,7 @@ module _ {slots : ℕ} {lim : Limits} {x : Scene} {W : World} (m : Mirror slots 
       (record { end = put_of (lowest_free e.slots) (fresh_of sid) e; storage = storage; coming = bytes_of W l })
       (record { coming = marks_of W l; owner = given (lowest_free e.slots) (some W.known) (x.book.notes server).owner })
   at_server =
-      new-at (m.at server) (welcomed W) (λ j t. kept server j) to_server refl greeting_room
+      new_at (m.at server) (welcomed W) (λ j t. kept server j) to_server refl greeting_room
       (false_T (has W.known (W.table server)) (λ t. omega (arith, (m.inv.tables server).below W.known t))) refl
       (m.inv.unknown W.known (omega arith)).0 (m.inv.unknown W.known (omega arith)).1
 
@@ -107,9 +107,9 @@ module _ {slots : ℕ} {lim : Limits} {x : Scene} {W : World} (m : Mirror slots 
   at_side server = rw (
     greeting_answer,
     greeting_storage,
-    front-leaves (m.at server) head header_length (syn_size sid),
+    front_leaves (m.at server) head header_length (syn_size sid),
     front_rest (m.at server) head,
-    front-sender (m.at server) head,
+    front_sender (m.at server) head,
   ) at_server
 
   lengths : Lengths x scene
@@ -119,7 +119,7 @@ module _ {slots : ℕ} {lim : Limits} {x : Scene} {W : World} (m : Mirror slots 
   pub acted_greeting : Acted slots lim x W step greet
   acted_greeting = record {
     mirror = record { sizes = m.sizes; inv = welcomed_inv m.inv W.known l head; at = at_side; opened = m.opened; low = m.low };
-    whose = rw greeting_answer (front-sender (m.at server) head);
+    whose = rw greeting_answer (front_sender (m.at server) head);
     reply = rw greeting_answer;
     lengths = lengths;
   }

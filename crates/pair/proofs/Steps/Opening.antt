@@ -35,7 +35,7 @@ use Rattle.pair.proofs.Bytes.CallAt.{open_on, open_answer_lem, open_packet_lem}
 use Rattle.pair.proofs.Mirror.Scene.{mark_of, MirrorAt, Mirror}
 use Rattle.pair.proofs.Mirror.Facts.{made_at, none_held, full_room}
 use Rattle.pair.proofs.Mirror.Channels.{stream_tail, marked_one, marks_same, small_append, Channel}
-use Rattle.pair.proofs.Mirror.NewLane.{stays_at, new-at}
+use Rattle.pair.proofs.Mirror.NewLane.{stays_at, new_at}
 use Rattle.pair.proofs.Steps.Performs.{Lengths, Acted}
 
 module _ {slots : ℕ} {lim : Limits} {x : Scene} {W : World} (m : Mirror slots lim x W) (room : ℕ)
@@ -100,7 +100,7 @@ module _ {slots : ℕ} {lim : Limits} {x : Scene} {W : World} (m : Mirror slots 
       (record { end = put_of (lowest_free e.slots) (fresh_of sid) e; storage = (x.world client).storage; coming = (x.world client).coming })
       (record { coming = (x.book.notes client).coming; owner = given (lowest_free e.slots) (some W.born) (x.book.notes client).owner })
   at_client =
-      new-at (m.at client) W' (λ j t. kept client j (listed_born m.inv client j t)) to_client (set_num_same W.born sid W.sid) free'
+      new_at (m.at client) W' (λ j t. kept client j (listed_born m.inv client j t)) to_client (set_num_same W.born sid W.sid) free'
       (false_T (has W.born (W.table client)) (λ t. omega (arith, listed_born m.inv client W.born t))) refl (ap (st_of client) fresh')
       (ap (half client) fresh')
 

@@ -35,7 +35,7 @@ use Rattle.pair.specs.World.{Party}
 use Rattle.pair.specs.Step as step
 use Rattle.pair.specs.Step.{Read, did}
 use Rattle.pair.specs.History.{Scene}
-use Rattle.pair.proofs.Bytes.CallAt.{read_answer, read-payload, read-ack}
+use Rattle.pair.proofs.Bytes.CallAt.{read_answer, read_payload_lem, read_ack_lem}
 use Rattle.pair.proofs.Record.Calls.{read_does}
 use Rattle.pair.proofs.Mirror.Scene.{slot, SlotFor, Mirror}
 use Rattle.pair.proofs.Mirror.Facts.{ranges_of, lane_used, made_at, lane_at, lane_stands, named_is, short_is, too_short, Names}
@@ -102,9 +102,9 @@ module _ {slots : ℕ} {lim : Limits} {x : Scene} {W : World} (m : Mirror slots 
       let answer = rw (short_is m k lent) at
       (read_answer lim p.end (made_at m k) (m.at k).up (W.sid n) f.index a room ack (length (take lent p.storage))) in
       let payload = rw (short_is m k lent) at
-      (read-payload lim p.end (made_at m k) (m.at k).up (W.sid n) f.index a room ack (take lent p.storage)) in
+      (read_payload_lem lim p.end (made_at m k) (m.at k).up (W.sid n) f.index a room ack (take lent p.storage)) in
       let packet = rw (short_is m k lent) at
-      (read-ack lim p.end (made_at m k) (m.at k).up (W.sid n) f.index a room ack (length (take lent p.storage))) in
+      (read_ack_lem lim p.end (made_at m k) (m.at k).up (W.sid n) f.index a room ack (length (take lent p.storage))) in
       outcome (lane_stands m k n f) (lane_used m k n t) _
       (read_does (st_of k (W.lanes n)) (lane_stands m k n f) (ranges_of m k n) (lane_used m k n t) (read_room slots lim room ack lent (length p.storage)))
       (λ d. d.done)

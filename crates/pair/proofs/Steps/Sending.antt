@@ -23,7 +23,7 @@ use Rattle.pair.specs.World.{Party}
 use Rattle.pair.specs.Step as step
 use Rattle.pair.specs.Step.{Send, emitting, did}
 use Rattle.pair.specs.History.{Scene}
-use Rattle.pair.proofs.Bytes.CallAt.{send-answer, send-packet}
+use Rattle.pair.proofs.Bytes.CallAt.{send_answer, send_packet_lem}
 use Rattle.pair.proofs.Record.Calls.{send_does}
 use Rattle.pair.proofs.Mirror.Scene.{slot, SlotFor, Mirror}
 use Rattle.pair.proofs.Mirror.Facts.{ranges_of, lane_used, made_at, lane_at, lane_stands, named_is, Names}
@@ -47,8 +47,8 @@ send_outcome : {slots : ℕ} {lim : Limits} {x : Scene} {W : World} (m : Mirror 
 send_outcome {lim = lim} {x} {W} m {k} {n} t f payload room =
     let p = x.world k in
     let s = slot p f.index in
-    let answer = send-answer lim p.end (made_at m k) (m.at k).up (W.sid n) f.index (lane_at m k n t f) payload room in
-    let packet = send-packet lim p.end (made_at m k) (m.at k).up (W.sid n) f.index (lane_at m k n t f) payload room in
+    let answer = send_answer lim p.end (made_at m k) (m.at k).up (W.sid n) f.index (lane_at m k n t f) payload room in
+    let packet = send_packet_lem lim p.end (made_at m k) (m.at k).up (W.sid n) f.index (lane_at m k n t f) payload room in
     let bytes = packet_bytes (data_header s (length payload)) payload in
     outcome (lane_stands m k n f) (lane_used m k n t) _
     (send_does (st_of k (W.lanes n)) (lane_stands m k n f) (ranges_of m k n) (lane_used m k n t) payload (send_room lim payload room) refl) (λ d. d)
