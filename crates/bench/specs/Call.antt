@@ -3,13 +3,13 @@ use Rattle.std.specs.Prelude.{ℕ, ◌≡◌, List, [], ◌∷◌, length, get_o
 use Rattle.buffer.specs.Onto.{onto}
 use Rattle.table.specs.declared.end.End.{End}
 use Rattle.table.specs.Limits.{base}
-use Rattle.start.specs.declared.Started.{Started}
+use Rattle.start.specs.Start.{StartAnswer}
 use Rattle.start.specs.Start.{start_of}
-use Rattle.open.specs.declared.Opened.{Opened}
+use Rattle.open.specs.Open.{OpenAnswer}
 use Rattle.open.specs.Open.{open_of, open_packet}
-use Rattle.close.specs.declared.Closed.{Closed}
+use Rattle.close.specs.Close.{CloseAnswer}
 use Rattle.close.specs.Close.{close_of, close_packet}
-use Rattle.shutdown.specs.declared.Stopped.{Stopped}
+use Rattle.shutdown.specs.Shutdown.{ShutdownAnswer}
 use Rattle.shutdown.specs.Shutdown.{shutdown_of}
 use Rattle.steady.specs.declared.answer.Answer.{Answer}
 use Rattle.crossing.specs.Crossing.{end_from, words_of, over}
@@ -17,16 +17,16 @@ use Rattle.steady.specs.Steady.{answer_of, zeros, Sending, sends_of, Reading, re
 
 -- ---- the answers of the calls that are made once; their sum is 0
 
-abbrev pub start_answer : Started → Answer
+abbrev pub start_answer : StartAnswer → Answer
 start_answer r = answer_of r.number zeros 0 r.end
 
-abbrev pub open_answer : Opened → Answer
+abbrev pub open_answer : OpenAnswer → Answer
 open_answer r = answer_of r.number (r.sid ∷ r.length ∷ 0 ∷ 0 ∷ []) 0 r.end
 
-abbrev pub close_answer : Closed → Answer
+abbrev pub close_answer : CloseAnswer → Answer
 close_answer r = answer_of r.number (r.length ∷ 0 ∷ 0 ∷ 0 ∷ []) 0 r.end
 
-abbrev pub shutdown_answer : Stopped → Answer
+abbrev pub shutdown_answer : ShutdownAnswer → Answer
 shutdown_answer r = answer_of r.number zeros 0 r.end
 
 -- ---- what a call leaves: an answer, and the three buffers
@@ -61,13 +61,6 @@ left_by call e sid bytes storage out ack count last step =
     ∷ leaves (shutdown_answer (shutdown_of base e)) storage out ack
     ∷ []) call
     (takes_leave (takes_of e bytes storage count) out ack)
-
--- an answer and the buffers at exit are those
-pub record Leaves (left : Left) (r : Answer) (storage' out' ack' : List ℕ) : Type 0 where
-  pub answer : r ≡ left.answer
-  pub storage : storage' ≡ left.storage
-  pub out : out' ≡ left.out
-  pub ack : ack' ≡ left.ack
 
 -- ---- the same on the end that the record's words hold
 

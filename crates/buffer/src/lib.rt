@@ -9,9 +9,5 @@ pub fn copy_in(dst: &mut [u8], at: usize, src: &[u8])
     requires { at + length src.now ≤ length dst.old }
     ensures { dst.new ≡ paste dst.old at src.now (length src.now) }
 {
-    let mut i = 0;
-    while i < src.len() {
-        dst[at + i] = src[i];
-        i += 1;
-    }
+    dst[at..at + src.len()].copy_from_slice(src);
 }

@@ -1,29 +1,25 @@
-// What the calls share: the refusals that send, read and close begin with.
+// What the calls share: how send, read and close come to the session that they name.
 #![tactic(auto)]
 
-ghost use Rattle.std.specs.Prelude.{◌≡◌};
-ghost use Rattle.cases.specs.Cases.{first};
-ghost use Rattle.calling.specs.Calling.{seen_cases};
+ghost use Rattle.std.specs.Prelude.{◌≡◌, IfOk};
+ghost use Rattle.cases.specs.Cases.{first, number_in};
+ghost use Rattle.table.specs.Limits.{base};
+ghost use Rattle.calling.specs.Calling.{calling, IsThat};
 
-use cases::number;
-use scan::Look;
+use cases::refusal::Refusal;
+use scan::{Found, scan};
+use table::end::End;
 
-// The refusals that send, read and close begin with, of what was seen of an end and whether it is up: 12 where it isn't well made, 1 where it is
-// down, 4 where no slot holds the SID; else 0.
-#[tactic(auto, unfolding(cases::specs::Cases::first))]
-pub fn called_number(l: Look, up: bool) -> u8
-    ensures { result ≡ first (seen_cases l up) }
+// The session with that SID and its slot, or the refusal that send, read and close begin with: 12 where the end isn't well made, 1 where it is down, 4
+// where no slot holds the SID.
+#[tactic(auto, unfolding(cases::specs::Cases::first, scan::specs::Look::look_of))]
+pub fn find(e: &End, sid: u16) -> Result<Found, Refusal>
+    ensures number { number_in result ≡ first (calling base e.now sid) }
+    ensures found { IfOk result (λ f. IsThat f e.now sid) }
 {
-    if !l.made {
-        return number::ILL_MADE;
+    let look = scan(e, sid)?;
+    if !e.up {
+        return Err(Refusal::Down);
     }
-    if !up {
-        return number::DOWN;
-    }
-    let x = l.session;
-    let st = x.state;
-    if !st.in_use() {
-        return number::NO_SESSION;
-    }
-    number::DONE
+    look.found.ok_or(Refusal::NoSession)
 }

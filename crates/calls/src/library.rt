@@ -1,100 +1,88 @@
-// The seven calls of the library. The words of a line are as the comment at its function says. A function gets the rooms ready, makes the call and has
-// the answer line written; where that is much, a second one does the later part.
-use crate::world::Said;
-use fields::answer::Buffer;
+// The seven calls of the library. Each function gets the rooms ready, makes the call on the end and has the answer line written.
+use crate::world::World;
 use fields::{reply, rooms};
-use table::end::End;
-use words::limits;
+use smp::{Got, Opened, Refusal, Stop};
+use table::end::Role;
 
-// start ROLE
-pub(crate) fn start(line: &[u8], out: &mut Buffer) -> Said {
-    let r = smp::start(words::role(words::word(line, 1)));
-    let at = reply::done(out, r.number);
-    Said::of(r.end, at)
+// The number that comes back, and what the call gives; `none` where it is refused.
+fn told<T: Copy>(went: Result<T, Refusal>, none: T) -> (u8, T) {
+    match went {
+        Ok(given) => (0, given),
+        Err(r) => (r.into(), none),
+    }
 }
 
-// open ROOM
-pub(crate) fn open(e: End, line: &[u8], out: &mut Buffer) -> Said {
-    let mut room = [rooms::FILL; limits::ROOM_LENGTH];
-    let n = rooms::asked(line, 1, &room);
-    let lent = &mut room[..n];
-    let r = smp::open(e, lent);
-    let at = reply::opened(out, r.number, r.sid, r.length, lent);
-    Said::of(r.end, at)
-}
+impl World {
+    // start ROLE
+    pub(crate) fn start(&mut self, line: &[u8]) {
+        self.end = smp::start(words::role(words::word(line, 1)).unwrap_or(Role::Client));
+        reply::done(&mut self.answer, 0);
+    }
 
-// send SID BYTES ROOM
-pub(crate) fn send(e: End, line: &[u8], out: &mut Buffer) -> Said {
-    let mut payload = [0u8; limits::ROOM_LENGTH];
-    let k = rooms::bytes(words::word(line, 2), &mut payload);
-    let mut room = [rooms::FILL; limits::ROOM_LENGTH];
-    let n = rooms::asked(line, 3, &room);
-    sent(e, words::short(line, 1), &payload[..k], &mut room[..n], out)
-}
+    // open ROOM
+    pub(crate) fn open(&mut self, line: &[u8]) {
+        let mut room = rooms::asked(line, 1);
+        let went = smp::open(&mut self.end, room.lent_mut());
+        let (n, opened) = told(went, Opened { sid: 0, length: 0 });
+        reply::opened(&mut self.answer, n, opened.sid, opened.length, room.lent());
+    }
 
-fn sent(e: End, sid: u16, payload: &[u8], room: &mut [u8], out: &mut Buffer) -> Said {
-    let r = smp::send(e, sid, payload, room);
-    let at = reply::sent(out, r.number, r.length, room);
-    Said::of(r.end, at)
-}
+    // send SID BYTES ROOM
+    pub(crate) fn send(&mut self, line: &[u8]) {
+        let payload = rooms::spelled(words::word(line, 2));
+        let mut room = rooms::asked(line, 3);
+        let sid = words::short(line, 1).unwrap_or(0);
+        let went = smp::send(&mut self.end, sid, payload.lent(), room.lent_mut());
+        let (n, length) = told(went, 0);
+        reply::sent(&mut self.answer, n, length, room.lent());
+    }
 
-// read SID ROOM ACKROOM
-pub(crate) fn read(e: End, lend: usize, line: &[u8], storage: &[u8], out: &mut Buffer) -> Said {
-    let mut room = [rooms::FILL; limits::ROOM_LENGTH];
-    let mut ack = [rooms::FILL; limits::ROOM_LENGTH];
-    let n = rooms::asked(line, 2, &room);
-    let m = rooms::asked(line, 3, &ack);
-    let k = rooms::within(lend, storage);
-    got(
-        e,
-        words::short(line, 1),
-        &storage[..k],
-        &mut room[..n],
-        &mut ack[..m],
-        out,
-    )
-}
+    // read SID ROOM ACKROOM
+    pub(crate) fn read(&mut self, line: &[u8]) {
+        let mut room = rooms::asked(line, 2);
+        let mut ack = rooms::asked(line, 3);
+        let sid = words::short(line, 1).unwrap_or(0);
+        let storage = self.storage.lent();
+        let went = smp::read(&mut self.end, sid, storage, room.lent_mut(), ack.lent_mut());
+        let none = Got {
+            payload_length: 0,
+            ack_length: 0,
+        };
+        let (n, got) = told(went, none);
+        reply::got(
+            &mut self.answer,
+            n,
+            got.payload_length,
+            room.lent(),
+            got.ack_length,
+            ack.lent(),
+        );
+    }
 
-fn got(
-    e: End,
-    sid: u16,
-    storage: &[u8],
-    room: &mut [u8],
-    ack: &mut [u8],
-    out: &mut Buffer,
-) -> Said {
-    let r = smp::read(e, sid, storage, room, ack);
-    let at = reply::got(out, r.number, r.payload_length, room, r.ack_length, ack);
-    Said::of(r.end, at)
-}
+    // close SID ROOM
+    pub(crate) fn close(&mut self, line: &[u8]) {
+        let mut room = rooms::asked(line, 2);
+        let sid = words::short(line, 1).unwrap_or(0);
+        let went = smp::close(&mut self.end, sid, room.lent_mut());
+        let (n, length) = told(went, 0);
+        reply::sent(&mut self.answer, n, length, room.lent());
+    }
 
-// close SID ROOM
-pub(crate) fn close(e: End, line: &[u8], out: &mut Buffer) -> Said {
-    let mut room = [rooms::FILL; limits::ROOM_LENGTH];
-    let n = rooms::asked(line, 2, &room);
-    let lent = &mut room[..n];
-    let r = smp::close(e, words::short(line, 1), lent);
-    let at = reply::sent(out, r.number, r.length, lent);
-    Said::of(r.end, at)
-}
+    // shutdown
+    pub(crate) fn shutdown(&mut self) {
+        let (n, _) = told(smp::shutdown(&mut self.end), ());
+        reply::done(&mut self.answer, n);
+    }
 
-// shutdown
-pub(crate) fn shutdown(e: End, out: &mut Buffer) -> Said {
-    let r = smp::shutdown(e);
-    let at = reply::done(out, r.number);
-    Said::of(r.end, at)
-}
-
-// take BYTES
-pub(crate) fn take(e: End, lend: usize, line: &[u8], storage: &mut [u8], out: &mut Buffer) -> Said {
-    let mut bytes = [0u8; limits::ROOM_LENGTH];
-    let k = rooms::bytes(words::word(line, 1), &mut bytes);
-    let n = rooms::within(lend, storage);
-    taken(e, &bytes[..k], &mut storage[..n], out)
-}
-
-fn taken(e: End, bytes: &[u8], storage: &mut [u8], out: &mut Buffer) -> Said {
-    let r = smp::take(e, bytes, storage);
-    let at = reply::taken(out, r.number, r.used, r.kind, r.sid, r.missing);
-    Said::of(r.end, at)
+    // take BYTES
+    pub(crate) fn take(&mut self, line: &[u8]) {
+        let bytes = rooms::spelled(words::word(line, 1));
+        match smp::take(&mut self.end, bytes.lent(), self.storage.lent_mut()) {
+            Ok(t) => reply::taken(&mut self.answer, 0, t.used, t.kind.into(), t.sid, 0),
+            Err(stop @ Stop::MoreBytes(missing)) => {
+                reply::taken(&mut self.answer, stop.into(), 0, 0, 0, missing)
+            }
+            Err(stop) => reply::taken(&mut self.answer, stop.into(), 0, 0, 0, 0),
+        }
+    }
 }

@@ -1,45 +1,16 @@
 // Standard input, a line at a time: each line is answered as soon as it was read.
-ghost use Rattle.buffer.specs.Onto.{Front};
-
-use crate::command;
-use crate::world::{Storage, World};
-use fields::answer::Buffer;
-use fields::{reply, rooms};
+use crate::world::World;
+use std::io;
 use std::io::{Read, Stderr, Stdin, Stdout, Write};
-use text::line::end_of;
-use words::held;
-use words::held::Line;
+use text::line::LF;
+use words::held::Held;
 
 // What one read gives at most.
 const READ: usize = 4096;
 
-pub type Bytes = [u8; READ];
-
 // The budget: a proved loop has to end, so the program stops after 2^63 reads. In a conversation, where each read gives a line, these are 2^63 lines.
 // Each read gives one byte or more, so they are at least 562 million million lines of the longest.
-const READS: u64 = 9223372036854775808;
-
-// What is kept from one read to the next: how long the line that isn't ended yet is so far, and whether there is more to do.
-#[derive(Clone, Copy)]
-pub struct Turn {
-    pub world: World,
-    pub held: usize,
-    pub going: bool,
-}
-
-impl Turn {
-    fn first() -> Turn {
-        Turn::of(World::first(), 0, true)
-    }
-
-    fn of(w: World, held: usize, going: bool) -> Turn {
-        Turn {
-            world: w,
-            held: held,
-            going: going,
-        }
-    }
-}
+const READS: u64 = 1 << 63;
 
 // The program's three streams.
 #[derive(Clone, Copy)]
@@ -49,110 +20,72 @@ pub struct Streams {
     pub error: Stderr,
 }
 
-fn lost(mut to: Stderr) {
-    let _ = to.write_all(b"calls: standard output took no more; an answer is lost\n");
-}
-
-// The answer line goes out in one write. Where it can't, standard error is told.
-fn write(mut streams: Streams, out: &[u8], n: usize) -> bool {
-    let k = rooms::within(n, out);
-    let went = streams.output.write_all(&out[..k]).is_ok();
-    if !went {
-        lost(streams.error);
-    }
-    went
-}
-
-// The line that is held is answered.
-fn ended(
+// The streams, the line that isn't ended yet, and what the lines before it left.
+#[derive(Drop)]
+pub struct Conversation {
     streams: Streams,
-    w: World,
-    length: usize,
-    line: &[u8],
-    storage: &mut Storage,
-    out: &mut Buffer,
-) -> Turn {
-    let n = held::counted(length, line);
-    let v = command::answer(w, &line[..n], storage, out);
-    let k = reply::ended(out, v.said);
-    Turn::of(v, 0, write(streams, out, k))
+    held: Held,
+    world: World,
 }
 
-// Some characters of a line, which is answered if it ends there.
-fn piece(
-    streams: Streams,
-    t: Turn,
-    part: &[u8],
-    is_end: bool,
-    line: &mut Line,
-    storage: &mut Storage,
-    out: &mut Buffer,
-) -> Turn {
-    let length = held::join(line, t.held, part);
-    if is_end {
-        return ended(streams, t.world, length, line, storage, out);
-    }
-    Turn::of(t.world, length, true)
-}
-
-// What one read gave: each line that ends in it is answered, and the rest is held.
-fn chunk(
-    streams: Streams,
-    t: Turn,
-    bytes: &[u8],
-    line: &mut Line,
-    storage: &mut Storage,
-    out: &mut Buffer,
-) -> Turn {
-    let mut u = t;
-    let mut at = 0;
-    while at < bytes.len() {
-        let e = end_of(bytes, at);
-        u = piece(
+impl Conversation {
+    pub(crate) fn new(streams: Streams) -> Conversation {
+        Conversation {
             streams,
-            u,
-            &bytes[at..e],
-            e < bytes.len(),
-            line,
-            storage,
-            out,
-        );
-        if !u.going {
-            return u;
+            held: Held::new(),
+            world: World::first(),
         }
-        at = e + 1;
     }
-    u
-}
 
-// The input ended: a last line without LF counts if not empty.
-fn last(streams: Streams, t: Turn, line: &[u8], storage: &mut Storage, out: &mut Buffer) {
-    if 0 < t.held {
-        ended(streams, t.world, t.held, line, storage, out);
+    // The line that is held is answered. The answer line goes out in one write.
+    fn ended(&mut self) -> io::Result<()> {
+        self.world.obey(self.held.line());
+        self.held.clear();
+        self.world.answer.byte(LF);
+        self.streams.output.write_all(self.world.answer.line())
     }
-}
 
-// One read. The answer is how many bytes came: none at the end of the input, or where it can't be read.
-fn more(mut from: Stdin, bytes: &mut Bytes) -> usize
-    ensures { Front result bytes.new }
-{
-    from.read(bytes).unwrap_or(0)
-}
+    // What one read gave: each line that ends in it is answered, and the rest is held.
+    fn chunk(&mut self, bytes: &[u8]) -> io::Result<()> {
+        for part in bytes.split_inclusive(|c| *c == LF) {
+            match part.strip_suffix(&[LF]) {
+                Some(rest) => {
+                    self.held.join(rest);
+                    self.ended()?;
+                }
+                None => self.held.join(part),
+            }
+        }
+        Ok(())
+    }
 
-// Read after read, until the input ends or the output takes no more.
-pub(crate) fn converse(streams: Streams, line: &mut Line, storage: &mut Storage, out: &mut Buffer) {
-    let mut t = Turn::first();
-    let mut bytes = [0u8; READ];
-    let mut left = READS;
-    while 0 < left {
-        let n = more(streams.input, &mut bytes);
-        if n == 0 {
-            return last(streams, t, line, storage, out);
+    // The input ended: a last line without LF counts if not empty.
+    fn last(&mut self) -> io::Result<()> {
+        if self.held.is_empty() {
+            return Ok(());
         }
-        t = chunk(streams, t, &bytes[..n], line, storage, out);
-        if !t.going {
-            return;
+        self.ended()
+    }
+
+    // Read after read, until the input ends or can't be read, or the output takes no more.
+    fn read(&mut self) -> io::Result<()> {
+        let mut bytes = [0; READ];
+        for _ in 0..READS {
+            let n = self.streams.input.read(&mut bytes).unwrap_or(0);
+            if n == 0 {
+                return self.last();
+            }
+            self.chunk(&bytes[..n])?;
         }
-        left -= 1;
+        Ok(())
+    }
+
+    // The whole conversation. Where an answer can't be written, standard error is told.
+    pub(crate) fn converse(&mut self) {
+        if self.read().is_err() {
+            let _ = self.streams.error.write_all(
+                b"calls: standard output took no more; an answer is lost\n",
+            );
+        }
     }
 }

@@ -7,10 +7,7 @@ mod lines;
 mod own;
 mod world;
 
-use fields::answer;
-use lines::Streams;
-use table::storage;
-use words::held;
+use lines::{Conversation, Streams};
 
 fn main(rt: HostRuntime) {
     let streams = Streams {
@@ -18,8 +15,5 @@ fn main(rt: HostRuntime) {
         output: rt.stdout(),
         error: rt.stderr(),
     };
-    let mut line = [0u8; held::LONGEST];
-    let mut lent = [0u8; storage::LENGTH];
-    let mut out = [0u8; answer::LONGEST];
-    lines::converse(streams, &mut line, &mut lent, &mut out);
+    Conversation::new(streams).converse();
 }

@@ -1,35 +1,28 @@
-// The program's own lines: what a caller may do with the end and the storage that it holds. Their words are as the comments say.
-use crate::world::Said;
-use fields::answer::Buffer;
+// The program's own lines: what a caller may do with the end and the storage that it holds. A word that says nothing counts as 0.
+use crate::world::World;
 use fields::reply;
-use table::end::End;
-use words::forms::Form;
+use table::end::Role;
 use words::{limits, stated};
 
-// What such a line leaves, and its answer. A line that says nothing changes nothing.
-pub(crate) fn line(e: End, form: Form, line: &[u8], storage: &[u8], out: &mut Buffer) -> Said {
-    Said::of(
-        changed(e, form, line),
-        reply::own(out, e, form, line, storage),
-    )
-}
-
-// record SLOT STATE SID S H R G L0 L1 L2 L3 and end ROLE UP: the end from here on. Other lines leave it as it is.
-fn changed(e: End, form: Form, line: &[u8]) -> End {
-    match form {
-        Form::Record => e.put(stated::slot(line), stated::session(line)),
-        Form::End => e.with_role(
-            words::role(words::word(line, 1)),
-            words::number_at(line, 2) == 1,
-        ),
-        _ => e,
+impl World {
+    // lend N: how much of the storage calls are lent from here on.
+    pub(crate) fn lend(&mut self, line: &[u8]) {
+        self.storage.lend(words::value(line, 1, limits::STORAGE).unwrap_or(0) as usize);
+        reply::ok(&mut self.answer);
     }
-}
 
-// lend N: how much of the storage calls get from here on. Other lines leave that as it is.
-pub(crate) fn lent(lend: usize, form: Form, line: &[u8]) -> usize {
-    match form {
-        Form::Lend => words::value(line, 1, limits::STORAGE) as usize,
-        _ => lend,
+    // record SLOT STATE SID S H R G L L0 L1 L2 L3: a slot of the end from here on.
+    pub(crate) fn record(&mut self, line: &[u8]) {
+        self.end.put(stated::slot(line), stated::session(line));
+        reply::ok(&mut self.answer);
+    }
+
+    // end ROLE UP: role and state of the end from here on.
+    pub(crate) fn end(&mut self, line: &[u8]) {
+        let role = words::role(words::word(line, 1)).unwrap_or(Role::Client);
+        self.end = self
+            .end
+            .with_role(role, words::number_at(line, 2) == Some(1));
+        reply::ok(&mut self.answer);
     }
 }

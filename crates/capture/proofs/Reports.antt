@@ -1,104 +1,87 @@
--- Laws of the report: line by line, as the code goes, and what the code's loop keeps.
-use Prim.Native.Nat.{ℕ, ◌+◌, ◌-◌, ◌*◌, ◌≤◌, ◌<◌}
+-- Laws of the report, and what the code's loop keeps.
+use Prim.Native.Nat.{ℕ, suc, min, ◌+◌, ◌*◌, ◌≤◌, ◌<◌}
 use native.Mathlib.Omega.{arith}
-use native.Mathlib.Numerals.{add-one}
-use native.Mathlib.Nat.{zero-add}
 use native.Mathlib.Decide.{dec_lt}
-use mathlib.Core.Path.{◌≡◌, refl, sym, ap, ◌∙◌}
-use mathlib.Core.List.{List, [], ◌++◌, append_assoc}
-use lib.ListN.{length, take, drop}
-use lib.Seq.{paste-zero, take_all}
+use mathlib.Core.Path.{◌≡◌, sym, ap, ◌∙◌}
+use mathlib.Core.List.{List, [], ◌∷◌, ◌++◌, append_assoc}
+use lib.ListN.{length, take}
+use lib.Seq.{take_all}
 use Rattle.buffer.specs.Onto.{onto}
-use Rattle.buffer.specs.Wrote.{Wrote}
-use Rattle.buffer.proofs.Onto.{paste_first}
-use Rattle.buffer.proofs.Wrote.{then}
-use Rattle.text.specs.Lines.{lines, first_line}
-use Rattle.text.proofs.Lines.{lines_on, lines_end, first_front}
+use Rattle.text.specs.declared.writer.Writer.{Writer}
+use Rattle.text.specs.Lines.{lines}
+use Rattle.text.specs.Writing.{Written}
+use Rattle.text.proofs.Lines.{lines_most}
+use Rattle.text.proofs.Writing.{nothing, then, front}
+use Rattle.report.specs.declared.Line.{Line}
+use Rattle.report.specs.Rows.{end_row}
 use Rattle.report.specs.Lines.{row_limit, line_row}
 use Rattle.table.specs.declared.end.End.{End}
-use Rattle.fed.specs.declared.Fed.{Fed}
+use Rattle.table.specs.declared.end.Role.TheVariants.{Server}
+use Rattle.table.specs.End.{start_of}
+use Rattle.table.specs.Slots.{held_count}
 use Rattle.fed.specs.Line.{line_text, end_after}
-use Rattle.capture.specs.Feed.{input_limit, end_text, report}
-use Rattle.fed.specs.Parts.{line_fed}
-use Rattle.fed.proofs.Frames.{fed_line}
+use Rattle.fed.specs.Parts.{line_told}
+use Rattle.fed.proofs.Frames.{line_fed}
+use Rattle.capture.specs.Feed.{input_limit, report, feed_text}
 
--- the line that begins at a place, and the report on the lines from there on
-abbrev pub line_from : List ℕ → ℕ → List ℕ
-line_from text from = first_line (drop from text)
+-- the report on all lines of a text
+abbrev pub reported : List ℕ → List ℕ
+reported text = report 1 (start_of Server) (lines text)
 
-abbrev pub rest : List ℕ → End → ℕ → ℕ → List ℕ
-rest text e n from = report n e (lines (drop from text))
-
--- that report begins with that line's text
-pub report_on : (text : List ℕ) (e : End) (n from stop : ℕ) → from < length text → stop ≡ from + length (line_from text from)
-    → rest text e n from ≡ line_text n e (line_from text from) ++ rest text (end_after e (line_from text from)) (n + 1) (stop + 1)
-unfolding report
-report_on text e n from stop h p = rw (lines_on text from h, sym p, add-one n)
-
-pub report_end : (text : List ℕ) (e : End) (n from : ℕ) → length text ≤ from → rest text e n from ≡ end_text e
-unfolding report
-report_end text e n from h = rw (lines_end text from h)
-
--- the code has the line as a part of the text
-line_part : (text : List ℕ) (from stop : ℕ) → stop ≡ from + length (line_from text from) → take (stop - from) (drop from text) ≡ line_from text from
-line_part text from stop p =
-    let k : stop - from ≡ length (line_from text from) = omega arith in
-    ap (λ (j : ℕ). take j (drop from text)) k ∙ sym (first_front (drop from text))
-
--- what the loop keeps: what is written and what is to come make the whole report, and there is room for the rest
-pub record Going (text all out₀ out : List ℕ) (e : End) (n at from : ℕ) : Type 0 where
+-- what the loop keeps after k lines: what is written and what is to come make the whole report, and there is room for the rest
+pub record Going (all : List ℕ) (w₀ w : Writer) (e : End) (k : ℕ) (more : List (List ℕ)) : Type 0 where
   pub done : List ℕ
-  pub wrote : Wrote out₀ 0 done out at
-  pub whole : done ++ rest text e n from ≡ all
-  pub few : n ≤ from + 1
-  pub fewer : n ≤ length text + 1
-  pub narrow : at + row_limit ≤ row_limit * n
+  pub written : Written w₀ done w
+  pub whole : done ++ report (suc k) e more ≡ all
+  pub few : k + length more ≤ input_limit
+  pub narrow : w.at ≤ row_limit * k
 
-pub go_first : (text out : List ℕ) (e : End) → Going text (report 1 e (lines text)) out out e 1 0 0
-go_first text out e = record {
+pub go_first : (text : List ℕ) {w : Writer} {e : End} {k : ℕ} {more : List (List ℕ)} → length text ≤ input_limit → w.at ≡ 0 → e ≡ start_of Server → k ≡ 0
+    → more ≡ lines text → Going (reported text) w w e k more
+go_first text {w} {e} {k} {more} h p q z m = record {
   done = [];
-  wrote = record { written = paste-zero out 0 []; behind = refl; room = omega arith };
-  whole = refl;
-  few = omega arith;
-  fewer = omega arith;
+  written = nothing w;
+  whole = rw (q, z, m);
+  few = omega (arith, lines_most text, ap length m);
   narrow = omega arith;
 }
 
-module _ {text all out₀ out : List ℕ} {e : End} {n at from : ℕ} where
+module _ {all : List ℕ} {w₀ w : Writer} {e : End} {k : ℕ} {lines : List (List ℕ)} where
   -- one line more
-  pub go_on : Going text all out₀ out e n at from → from < length text → (stop : ℕ) (f : Fed) (out' : List ℕ) (at' : ℕ)
-      → stop ≡ from + length (line_from text from) → f ≡ line_fed e (take (stop - from) (drop from text))
-      → Wrote out at (line_row n f.line) out' at' × (length (line_row n f.line) ≤ row_limit) → Going text all out₀ out' f.end (n + 1) at' (stop + 1)
-  go_on g h stop f out' at' p q w =
-      let l : List ℕ = line_from text from in
-      let t : List ℕ = line_row n f.line in
-      let r : f ≡ line_fed e l = q ∙ ap (line_fed e) (line_part text from stop p) in
-      let u : t ≡ line_text n e l = ap (λ (x : Fed). line_row n x.line) r ∙ (fed_line e l n).0 in
-      let v : f.end ≡ end_after e l = ap (λ (x : Fed). x.end) r ∙ (fed_line e l n).1 in
-      let o : rest text e n from ≡ t ++ rest text f.end (n + 1) (stop + 1) =
-      report_on text e n from stop h p ∙ rw (u, v) in
+  pub go_on : {line : List ℕ} {more : List (List ℕ)} {i j : ℕ} {l : Line} {e' : End} {w' : Writer} → Going all w₀ w e k lines → lines ≡ line ∷ more → i ≡ k
+      → j ≡ k + 1 → l ≡ line_told e line → e' ≡ end_after e line → Written w (line_row (i + 1) l) w' → length (line_row (i + 1) l) ≤ row_limit
+      → Going all w₀ w' e' j more
+  unfolding report
+  go_on {line} {more} {i} {j} {l} {e'} {w'} g s c d p q u h =
+      let t : List ℕ = line_row (i + 1) l in
+      let n : i + 1 ≡ suc k = omega arith in
+      let m : suc j ≡ suc (suc k) = omega arith in
+      let v : t ≡ line_text (suc k) e line = ap (line_row (i + 1)) p ∙ line_fed (i + 1) e line ∙ ap (λ (x : ℕ). line_text x e line) n in
+      let o : t ++ report (suc j) e' more ≡ report (suc k) e (line ∷ more) = rw (v, q, m) in
       record {
         done = g.done ++ t;
-        wrote = then g.wrote w.0;
-        whole = append_assoc g.done t (rest text f.end (n + 1) (stop + 1)) ∙ ap (λ (x : List ℕ). g.done ++ x) (sym o) ∙ g.whole;
-        few = omega (arith, g.few);
-        fewer = omega (arith, g.few);
-        narrow = omega (arith, g.narrow, w.0.behind, w.1);
+        written = then g.written u;
+        whole =
+            append_assoc g.done t (report (suc j) e' more)
+            ∙ ap (λ (x : List ℕ). g.done ++ x) (o ∙ ap (report (suc k) e) (sym s))
+            ∙ g.whole;
+        few = omega (arith, g.few, ap length s);
+        narrow = omega (arith, g.narrow, u.wrote.behind, h);
       }
 
-  -- the last line
-  pub go_last : Going text all out₀ out e n at from → length text ≤ from → (out' : List ℕ) (at' : ℕ) → Wrote out at (end_text e) out' at'
-      → (out' ≡ onto all out₀) × (at' ≡ length all)
-  go_last g h out' at' w =
-      let p : g.done ++ end_text e ≡ all = ap (λ (l : List ℕ). g.done ++ l) (sym (report_end text e n from h)) ∙ g.whole in
-      let both = then g.wrote w in (
-        both.written ∙ paste_first (g.done ++ end_text e) out₀ ∙ ap (λ (l : List ℕ). onto l out₀) p,
-        both.behind ∙ zero-add (length (g.done ++ end_text e)) ∙ ap length p,
-      )
+  -- the last line, with which the report is at the buffer's front
+  pub go_last : {held : ℕ} {w' : Writer} → Going all w₀ w e k lines → lines ≡ [] → w₀.at ≡ 0 → held ≡ held_count e.slots → Written w (end_row e.up held) w'
+      → (w'.out.now ≡ onto all w₀.out.now) × (w'.at ≡ length all)
+  unfolding report
+  go_last {held} {w'} g s z h u =
+      let t : List ℕ = g.done ++ end_row e.up held in
+      let p : t ≡ all = ap (λ (m : ℕ). g.done ++ end_row e.up m) h ∙ ap (λ (l : List (List ℕ)). g.done ++ report (suc k) e l) (sym s) ∙ g.whole in
+      front (rw p at (then g.written u)) z
 
 -- the bytes that count are the first of the input
-pub first_counted : (input : List ℕ) (n : ℕ) → n ≡ length input - (length input - input_limit) → take n input ≡ take input_limit input
-first_counted input n p = by (dec_lt (length input) input_limit)
+pub counted : (input : List ℕ) (n : ℕ) → n ≡ min (length input) input_limit → reported (take n input) ≡ feed_text input
+unfolding feed_text
+counted input n p = ap reported (by (dec_lt (length input) input_limit))
   where
     by : Dec (length input < input_limit) → take n input ≡ take input_limit input
     by (yes h) = take_all n input (omega arith) ∙ sym (take_all input_limit input (omega arith))

@@ -10,6 +10,8 @@ ghost use Rattle.capture.specs.Feed.{input_limit, report, feed_text};
 
 use table::end::{End, Role};
 use table::storage;
+use text::line::Lines;
+use text::writer::Writer;
 
 // At most 65,536 bytes of the input (more is dropped).
 pub const INPUT: usize = 65536;
@@ -27,34 +29,22 @@ fn feed_lines(text: &[u8], out: &mut [u8; REPORT]) -> usize
 {
     let mut storage = [0; storage::LENGTH];
     let mut e = End::start(Role::Server);
-    let mut n: u32 = 1;
-    let mut at = 0;
-    let mut from = 0;
-    while from < text.len() {
-        let stop = text::line::end_of(text, from);
-        let f = fed::one_line(e, &text[from..stop], &mut storage);
-        let l = f.line;
-        at = report::line_row(out, at, n, l);
-        e = f.end;
-        n += 1;
-        from = stop + 1;
+    let mut w = Writer::from(out, 0);
+    for (i, line) in Lines::of(text).enumerate() {
+        let l = fed::one_line(&mut e, line, &mut storage);
+        report::line_row(&mut w, i as u32 + 1, l);
     }
-    report::last_row(out, at, e.up, e.held())
-}
-
-// How many of so many bytes count.
-fn counted(n: usize) -> usize
-    ensures { result ≡ n - (n - input_limit) }
-{
-    if n < INPUT { n } else { INPUT }
+    report::last_row(&mut w, e.up, e.held());
+    w.place()
 }
 
 // Feeds a capture, at most its first 65,536 bytes, to a fresh server line by line, and puts the report at the front of the buffer. The answer is
 // the report's length; later bytes are untouched.
+#[tactic(auto, using(crate::proofs::Reports::counted))]
 pub fn feed(input: &[u8], out: &mut [u8; REPORT]) -> usize
     ensures out_after { out.new ≡ onto (feed_text input.now) out.old }
     ensures value { result ≡ length (feed_text input.now) }
 {
-    let n = counted(input.len());
+    let n = input.len().min(INPUT);
     feed_lines(&input[..n], out)
 }

@@ -13,7 +13,7 @@ use Rattle.table.specs.declared.end.End.{End}
 use Rattle.table.specs.Slots.{session_of}
 use Rattle.table.specs.End.{changed_of}
 use Rattle.table.specs.Limits.{Limits, base}
-use Rattle.close.specs.declared.Closed.{Closed}
+use Rattle.close.specs.Close.{CloseAnswer}
 use Rattle.close.specs.Close.{close_number, fin_header, close_done, close_refused, close_of, close_packet, ClosePromise}
 
 pub close_long : (lim : Limits) (e : End) (sid room : ℕ) → length (close_packet lim e sid room) ≡ (close_of lim e sid room).length
@@ -21,10 +21,10 @@ unfolding close_packet close_of
 close_long lim e sid room =
     let h = fin_header (session_of sid e.slots) in
     let n = close_number lim e sid room in
-    done_length (λ (a : Closed). a.length) n (close_done (changed_of sid closed_on e)) (close_refused n e) (header_bytes h) (λ z. header_length_lem h) refl
+    done_length (λ (a : CloseAnswer). a.length) n (close_done (changed_of sid closed_on e)) (close_refused n e) (header_bytes h) (λ z. header_length_lem h) refl
 
 -- so they are at the front of the buffer, whatever number comes back
-pub close_counts : {e : End} {sid : ℕ} {lent exit : List ℕ} {r : Closed} → ClosePromise e sid lent r exit → Front r.length exit
+pub close_counts : {e : End} {sid : ℕ} {lent exit : List ℕ} {r : CloseAnswer} → ClosePromise e sid lent r exit → Front r.length exit
 close_counts {e} {sid} {lent} q =
     onto_front (close_packet base e sid (length lent)) lent q.packet
-    (close_long base e sid (length lent) ∙ ap (λ (a : Closed). a.length) (sym q.answer))
+    (close_long base e sid (length lent) ∙ ap (λ (a : CloseAnswer). a.length) (sym q.answer))

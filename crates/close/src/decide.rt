@@ -1,38 +1,25 @@
-// What close decides from a look at the table and small values: its number, and its FIN.
-ghost use Rattle.std.specs.Prelude.{◌≡◌, ◌++◌};
-ghost use Rattle.cases.specs.Cases.{first};
-ghost use Rattle.calling.specs.Calling.{seen_cases};
+// What close decides from the session and small values: whether it refuses, and its FIN.
+ghost use Rattle.std.specs.Prelude.{◌≡◌};
+ghost use Rattle.cases.specs.Cases.{first, number_in};
 ghost use Rattle.close.specs.Close.{close_cases, fin_header};
 
-use calling::called_number;
-use cases::{first_of, number};
-use scan::Look;
-use session::record::Session;
+use cases::refusal::Refusal;
+use session::record::{Session, State};
 use wire::header::Header;
 use wire::kind::Kind;
 
-// 5, 9.
+// Close's refusal in that session, with so much room in the packet buffer: 5, 9.
 #[tactic(auto, unfolding(cases::specs::Cases::first))]
-fn session_number(x: Session, room: usize) -> u8
-    ensures { result ≡ first (close_cases x room) }
+pub fn may_close(x: Session, room: usize) -> Result<(), Refusal>
+    ensures { number_in result ≡ first (close_cases x room) }
 {
-    let st = x.state;
-    if st.fin_sent() {
-        return number::WRONG_STATE;
+    if x.state == State::FinSent {
+        return Err(Refusal::WrongState);
     }
     if room < Header::LEN {
-        return number::TOO_SHORT;
+        return Err(Refusal::TooShort);
     }
-    number::DONE
-}
-
-// Close's number, of what was seen of the end, whether it is up, and the room in the packet buffer: 12, 1, 4, then the session's; 0 if it is done.
-#[tactic(auto, using(calling::proofs::Looked::found))]
-pub fn close_number(l: Look, up: bool, room: usize) -> u8
-    ensures { result ≡ first (seen_cases l up ++ close_cases l.session room) }
-{
-    let x = l.session;
-    first_of(called_number(l, up), session_number(x, room))
+    Ok(())
 }
 
 // The header of the FIN that a session emits: its SID, LENGTH 16, SEQNUM S, WNDW G.

@@ -1,65 +1,44 @@
 -- Laws of the words: slots and words put one by one, as the code goes, are those of the definitions.
-use Prim.Native.Nat.{ℕ, zero, suc, ◌+◌, ◌-◌, ◌<◌, ◌≤◌}
+use Prim.Native.Nat.{ℕ, zero, suc, ◌+◌, ◌<◌, ◌≤◌}
 use native.Mathlib.Omega.{arith}
 use native.Mathlib.Numerals.{add-one}
-use mathlib.Core.Path.{◌≡◌, refl, sym, ap, ◌∙◌}
-use mathlib.Core.Bool.{not}
-use mathlib.Core.List.{List, [], ◌∷◌, ◌++◌}
-use lib.Dec.{eqb}
+use native.Mathlib.Nat.{add-suc}
+use native.Mathlib.Decide.{dec_lt}
+use mathlib.Core.Path.{◌≡◌, refl, sym, ap, subst, ◌∙◌}
+use mathlib.Core.List.{List, [], ◌∷◌, ◌++◌, map}
 use lib.ListN.{length, get_or, drop, set, drop_of_length-le}
-use lib.Seq.{sets, drop-cons}
-use Rattle.session.specs.declared.record.State.{State}
+use lib.Seq.{sets, drop-cons, set_out}
+use Rattle.std.specs.Array.{IsFromFnResult, IsFromFnResultFrom}
+use Rattle.std.specs.List.{range_with_len}
+use Rattle.std.proofs.lemmas.List.FromFn.{fill_by_all}
+use denote.Param.Members.{Mut, Called}
 use Rattle.session.specs.declared.record.Session.{Session}
-use Rattle.session.specs.Record.{record_of}
 use Rattle.session.proofs.Past.{past}
-use Rattle.table.specs.declared.end.Role.{Role}
 use Rattle.table.specs.declared.end.End.{End}
-use Rattle.table.specs.End.{slot_count, start_of, put_of}
-use Rattle.crossing.specs.Crossing.{word_at, short_of, lens_at, role_of, state_of, slot_words, slot_at, session_from, slots_from, end_from}
-use Rattle.crossing.specs.Crossing.{role_word, up_word, state_word, session_words, slots_words, words_of, over}
+use Rattle.crossing.specs.Crossing.{slot_at, slot_words, session_from, slots_from, role_word, up_word, session_words, slots_words, words_of, over}
 
--- ---- an end from words, slot by slot
+-- ---- slots from words
 
--- the end with so many slots put, from slot i on
-unfoldable pub put_from : List ℕ → ℕ → ℕ → End → End
-put_from w i zero e = e
-put_from w i (suc more) e = put_from w (suc i) more (put_of i (session_from w i) e)
+slots_range : (w : List ℕ) (i n : ℕ) → slots_from w i n ≡ map (session_from w) (range_with_len i n)
+unfolding slots_from
+slots_range w i zero = refl
+slots_range w i (suc n) = rw (slots_range w (suc i) n, add-one)
 
-put_step : (w : List ℕ) (i : ℕ) (e : End) → i < slot_count
-    → put_from w i (slot_count - i) e ≡ put_from w (i + 1) (slot_count - (i + 1)) (put_of i (session_from w i) e)
-unfolding put_from
-put_step w i e h =
-    let k : slot_count - i ≡ suc (slot_count - (i + 1)) = omega arith in
-    rw (k, add-one)
+-- a closure that changes nothing gives each slot from its words
+module _ {F : Type 0} (g : Mut F (ℕ × Unit {0}) Session) (f : F) (w : List ℕ) (xs : List Session) (n : ℕ)
+    (each : (i : ℕ) (x : Session) (f' : F) → i < n → Called g f (i, tt) x f' → (f' ≡ f) × (x ≡ session_from w i)) where
+  slot_made : (i more : ℕ) → i + more ≡ n → IsFromFnResultFrom g f xs i more → (k : ℕ) → i ≤ k → k < n → get_or xs k past ≡ session_from w k
+  slot_made i zero e m k l h = absurd (omega arith)
+  slot_made i (suc more) e (f', x, is, call, rest) k l h =
+      let now = each i x f' (omega arith) call in
+      elim (dec_lt i k) as (λ _. get_or xs k past ≡ session_from w k) [
+        | yes later ↦ slot_made (i + 1) more (omega arith) (subst (λ (q : F). IsFromFnResultFrom g q xs (i + 1) more) now.0 rest) k (omega arith) h
+        | no here ↦ let q : k ≡ i = omega arith in rw q (is.1 past ∙ now.1)
+      ]
 
-pub put_on : (w : List ℕ) (i : ℕ) (e e' : End) (x : Session) {all : End} → i < slot_count → x ≡ session_from w i → e' ≡ put_of i x e
-    → put_from w i (slot_count - i) e ≡ all → put_from w (i + 1) (slot_count - (i + 1)) e' ≡ all
-put_on w i e e' x h p q r =
-    ap (λ (y : End). put_from w (i + 1) (slot_count - (i + 1)) y) (q ∙ ap (λ (y : Session). put_of i y e) p) ∙ sym (put_step w i e h) ∙ r
-
-pub put_stop : (w : List ℕ) (i : ℕ) (e : End) → slot_count ≤ i → put_from w i (slot_count - i) e ≡ e
-unfolding put_from
-put_stop w i e h =
-    let k : slot_count - i ≡ 0 = omega arith in
-    rw k
-
--- a fresh end, its role and up from the first words
-pub put_all : (w : List ℕ) (r : Role) (s : End) (b : ℕ) → r ≡ role_of (word_at w 0) → s ≡ start_of r → b ≡ word_at w 1
-    → put_from w 0 slot_count record { role = s.role; up = not (eqb b 0); slots = s.slots } ≡ end_from w
-unfolding put_from end_from slots_from
-put_all w r s b p q u = rw (q, p, u)
-
--- lengths, and a record from its parts, each as it was found
-pub lens_made : (w : List ℕ) (at a b c d : ℕ) → a ≡ short_of (word_at w at) → b ≡ short_of (word_at w (at + 1)) → c ≡ short_of (word_at w (at + 2))
-    → d ≡ short_of (word_at w (at + 3)) → a ∷ b ∷ c ∷ d ∷ [] ≡ lens_at w at
-lens_made w at a b c d p q r s = rw (p, q, r, s)
-
-pub session_made : (w : List ℕ) (i : ℕ) (x : Session) (st : State) (sid s h r g l : ℕ) (lens : List ℕ) → x ≡ record_of st sid s h r g l lens
-    → st ≡ state_of (word_at w (slot_at i)) → sid ≡ short_of (word_at w (slot_at i + 1)) → s ≡ word_at w (slot_at i + 2) → h ≡ word_at w (slot_at i + 3)
-    → r ≡ word_at w (slot_at i + 4) → g ≡ word_at w (slot_at i + 5) → l ≡ word_at w (slot_at i + 6) → lens ≡ lens_at w (slot_at i + 7)
-    → x ≡ session_from w i
-unfolding session_from
-session_made w i x st sid s h r g l lens p a b c d e f k n = p ∙ rw (a, b, c, d, e, f, k, n)
+  pub slots_made : IsFromFnResult g f xs n → xs ≡ slots_from w 0 n
+  slots_made m =
+      fill_by_all (session_from w) xs n past m.long (λ k h. slot_made 0 n (omega arith) m.each k (omega arith) h) ∙ sym (slots_range w 0 n)
 
 -- ---- words put one by one
 
@@ -71,7 +50,7 @@ sets_nil : (i : ℕ) (vs : List ℕ) → sets [] i vs ≡ []
 sets_nil i [] = refl
 sets_nil i (a ∷ vs) = sets_nil (suc i) vs
 
-pub sets_over : (vs w : List ℕ) → sets w 0 vs ≡ over vs w
+sets_over : (vs w : List ℕ) → sets w 0 vs ≡ over vs w
 unfolding over
 sets_over vs [] = sets_nil 0 vs
 sets_over [] (y ∷ w) = refl
@@ -82,58 +61,35 @@ sets_append w i [] b = ap (λ (k : ℕ). sets w k b) (omega arith)
 sets_append w i (x ∷ a) b =
     ap (λ (k : ℕ). sets (sets (set w i x) (suc i) a) k b) (omega arith) ∙ sets_append (set w i x) (suc i) a b
 
--- a record's words, each as it was found
-pub words_made : (x : Session) (st sid a b c d : ℕ) → st ≡ state_word x.state → sid ≡ x.sid → a ≡ get_or x.lens 0 0 → b ≡ get_or x.lens 1 0
-    → c ≡ get_or x.lens 2 0 → d ≡ get_or x.lens 3 0
-    → st ∷ sid ∷ x.s ∷ x.h ∷ x.r ∷ x.g ∷ x.l ∷ a ∷ b ∷ c ∷ d ∷ [] ≡ session_words x
-words_made x st sid a b c d p q r s t u = rw (p, q, r, s, t, u)
-
--- the same put, from word k on
-words_step : (a w : List ℕ) (at k : ℕ) → k < length a
+-- a word is put, and the rest from the next on
+pub sets_on : (a w : List ℕ) (at k : ℕ) → k < length a
     → sets w (at + k) (drop k a) ≡ sets (set w (at + k) (get_or a k 0)) (at + (k + 1)) (drop (k + 1) a)
-words_step a w at k h =
-    let n : suc (at + k) ≡ at + (k + 1) = omega arith in
-    let m : suc k ≡ k + 1 = omega arith in
-    rw (drop-cons a k 0 h) (ap (λ (j : ℕ). sets (set w (at + k) (get_or a k 0)) j (drop (suc k) a)) n
-    ∙ ap (λ (j : ℕ). sets (set w (at + k) (get_or a k 0)) (at + (k + 1)) (drop j a)) m)
+sets_on a w at k h = rw (drop-cons a k 0 h, add-one, add-suc)
 
-pub words_on : (a w w' : List ℕ) (at k : ℕ) {all : List ℕ} → k < length a → w' ≡ set w (at + k) (get_or a k 0)
-    → sets w (at + k) (drop k a) ≡ all → sets w' (at + (k + 1)) (drop (k + 1) a) ≡ all
-words_on a w w' at k h p r = ap (λ (v : List ℕ). sets v (at + (k + 1)) (drop (k + 1) a)) p ∙ sym (words_step a w at k h) ∙ r
+-- past the last word nothing is put
+pub put_past : (w : List ℕ) (i x : ℕ) → length w ≤ i → set w i x ≡ w
+put_past = set_out
 
-pub words_stop : (a w : List ℕ) (at k : ℕ) → length a ≤ k → sets w (at + k) (drop k a) ≡ w
-words_stop a w at k h = rw (drop_of_length-le a h)
+pub sets_end : (a w : List ℕ) (at k : ℕ) → length a ≤ k → sets w at (drop k a) ≡ w
+sets_end a w at k h = rw (drop_of_length-le a h)
 
--- the slots' words, from slot i on
-slots_step : (xs : List Session) (w : List ℕ) (i : ℕ) → i < length xs
+-- ---- and slots
+
+pub slots_on : (xs : List Session) (w : List ℕ) (i : ℕ) → i < length xs
     → sets w (slot_at i) (slots_words (drop i xs))
     ≡ sets (sets w (slot_at i) (session_words (get_or xs i past))) (slot_at (i + 1)) (slots_words (drop (i + 1) xs))
-unfolding slots_words
-slots_step xs w i h =
+unfolding slots_words session_words
+slots_on xs w i h =
     let x = get_or xs i past in
     let n : slot_at i + slot_words ≡ slot_at (i + 1) = omega arith in
-    let m : suc i ≡ i + 1 = omega arith in
-    rw (drop-cons xs i past h) (sym (sets_append w (slot_at i) (session_words x) (slots_words (drop (suc i) xs)))
-    ∙ ap (λ (j : ℕ). sets (sets w (slot_at i) (session_words x)) j (slots_words (drop (suc i) xs))) n
-    ∙ ap (λ (j : ℕ). sets (sets w (slot_at i) (session_words x)) (slot_at (i + 1)) (slots_words (drop j xs))) m)
+    rw (drop-cons xs i past h, ← sets_append w (slot_at i) (session_words x) (slots_words (drop (suc i) xs)), n, add-one)
 
-pub slots_on : (xs : List Session) (w w' : List ℕ) (i : ℕ) (x : Session) {all : List ℕ} → i < length xs → x ≡ get_or xs i past
-    → w' ≡ sets w (slot_at i) (session_words x)
-    → sets w (slot_at i) (slots_words (drop i xs)) ≡ all → sets w' (slot_at (i + 1)) (slots_words (drop (i + 1) xs)) ≡ all
-slots_on xs w w' i x h p q r =
-    ap (λ (v : List ℕ). sets v (slot_at (i + 1)) (slots_words (drop (i + 1) xs))) (q ∙ ap (λ (y : Session). sets w (slot_at i) (session_words y)) p)
-    ∙ sym (slots_step xs w i h)
-    ∙ r
-
-pub slots_stop : (xs : List Session) (w : List ℕ) (i : ℕ) → length xs ≤ i → sets w (slot_at i) (slots_words (drop i xs)) ≡ w
+pub slots_end : (xs : List Session) (w : List ℕ) (i : ℕ) → length xs ≤ i → sets w (slot_at i) (slots_words (drop i xs)) ≡ w
 unfolding slots_words
-slots_stop xs w i h = rw (drop_of_length-le xs h)
+slots_end xs w i h = rw (drop_of_length-le xs h)
 
 -- role and up come first
-pub end_words : (e : End) (w v v' : List ℕ) (r u : ℕ) → r ≡ role_word e.role → u ≡ up_word e.up → v ≡ set w 0 r → v' ≡ set v 1 u
-    → sets v' 2 (slots_words e.slots) ≡ over (words_of e) w
+pub end_words : (e : End) (w v : List ℕ) (r u : ℕ) → r ≡ role_word e.role → u ≡ up_word e.up → v ≡ sets w 0 (r ∷ u ∷ [])
+    → sets v 2 (slots_words e.slots) ≡ over (words_of e) w
 unfolding words_of
-end_words e w v v' r u p q a b =
-    ap (λ (z : List ℕ). sets z 2 (slots_words e.slots)) (b ∙ ap (λ (z : List ℕ). set z 1 u) a ∙ ap (λ (n : ℕ). set (set w 0 r) 1 n) q
-    ∙ ap (λ (n : ℕ). set (set w 0 n) 1 (up_word e.up)) p)
-    ∙ sets_over (words_of e) w
+end_words e w v r u p q a = rw (a, p, q) (sets_over (words_of e) w)

@@ -69,7 +69,7 @@ state_word Established = 1
 state_word FinSent = 2
 state_word FinReceived = 3
 
-abbrev pub session_words : Session → List ℕ
+unfoldable pub session_words : Session → List ℕ
 session_words x =
     state_word x.state ∷ x.sid ∷ x.s ∷ x.h ∷ x.r ∷ x.g ∷ x.l
     ∷ get_or x.lens 0 0 ∷ get_or x.lens 1 0 ∷ get_or x.lens 2 0 ∷ get_or x.lens 3 0 ∷ []

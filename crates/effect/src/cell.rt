@@ -6,7 +6,7 @@ use session::record::{Session, State};
 use wire::kind::Kind;
 
 // A cell of the table.
-#[derive(Clone, Copy)]
+#[derive(Clone, Copy, Debug, PartialEq, Eq)]
 pub enum Cell {
     Store,
     Grant,
@@ -20,21 +20,13 @@ pub enum Cell {
 pub fn cell_of(st: State, k: Kind) -> Cell
     ensures { result ≡ cell_of st k }
 {
-    match st {
-        State::Established => match k {
-            Kind::Data => Cell::Store,
-            Kind::Ack => Cell::Grant,
-            Kind::Fin => Cell::End,
-            Kind::Syn => Cell::Fault,
-        },
-        State::FinSent => match k {
-            Kind::Data => Cell::Ignore,
-            Kind::Ack => Cell::Ignore,
-            Kind::Fin => Cell::Free,
-            Kind::Syn => Cell::Fault,
-        },
-        State::FinReceived => Cell::Fault,
-        State::Closed => Cell::Fault,
+    match (st, k) {
+        (State::Established, Kind::Data) => Cell::Store,
+        (State::Established, Kind::Ack) => Cell::Grant,
+        (State::Established, Kind::Fin) => Cell::End,
+        (State::FinSent, Kind::Data | Kind::Ack) => Cell::Ignore,
+        (State::FinSent, Kind::Fin) => Cell::Free,
+        (State::FinReceived | State::Closed, _) | (_, Kind::Syn) => Cell::Fault,
     }
 }
 
@@ -53,8 +45,7 @@ pub fn becomes(x: Session, c: Cell, seqnum: u32, wndw: u32, n: u16) -> Session
         Cell::Store => x.stored(seqnum, wndw, n),
         Cell::Grant => x.granted(wndw),
         Cell::End => ended(x, wndw),
-        Cell::Ignore => x,
+        Cell::Ignore | Cell::Fault => x,
         Cell::Free => Session::free(),
-        Cell::Fault => x,
     }
 }

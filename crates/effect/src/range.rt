@@ -1,10 +1,9 @@
 // WNDW in range for a SYN; WNDW and SEQNUM in range for a session that a packet names.
 ghost use Rattle.std.specs.Prelude.{◌≡◌};
-ghost use Rattle.effect.specs.Taken.{window_in_range, grant_in_range, is_data, seqnum_in_range};
+ghost use Rattle.effect.specs.Taken.{window_in_range, grant_in_range, seqnum_in_range};
 
-use cases::both;
 use session::counter;
-use session::record::Session;
+use session::record::{Session, State};
 use wire::kind::Kind;
 
 // Whether a packet's WNDW is in range for the record: H - S <= WNDW - S <= most, so that the window never shrinks and never passes the highest.
@@ -24,26 +23,14 @@ pub fn grant_in_range(most: u32, wndw: u32) -> bool
     Session::LEAST <= wndw && wndw <= most
 }
 
-fn is_data(k: Kind) -> bool
-    ensures { result ≡ is_data k }
-{
-    match k {
-        Kind::Syn => false,
-        Kind::Ack => false,
-        Kind::Fin => false,
-        Kind::Data => true,
-    }
-}
-
 // Whether a packet's SEQNUM is in range for the record: DATA in ESTABLISHED is the next packet, R + 1, and there is room for it; all else lies in the
 // window, SEQNUM - R <= G - R.
 #[tactic(auto, unfolding(crate::specs::Taken::seqnum_in_range))]
 pub fn seqnum_in_range(x: Session, k: Kind, seqnum: u32) -> bool
     ensures { result ≡ seqnum_in_range x k seqnum }
 {
-    let st = x.state;
-    if both(is_data(k), st.established()) {
-        both(seqnum == counter::plus(x.r, 1), x.r != x.g)
+    if k == Kind::Data && x.state == State::Established {
+        seqnum == counter::plus(x.r, 1) && x.r != x.g
     } else {
         counter::minus(seqnum, x.r) <= counter::minus(x.g, x.r)
     }

@@ -11,7 +11,7 @@ use Rattle.table.specs.Slots.{unread_of}
 use Rattle.table.specs.End.{slot_count}
 use Rattle.table.specs.Limits.{base}
 use Rattle.table.specs.Storage.{storage_length}
-use Rattle.take.specs.declared.Taken.{Taken}
+use Rattle.take.specs.Take.{TakeAnswer}
 use Rattle.take.specs.Take.{take_of}
 
 -- ---- lower-case hexadecimal, one frame a line
@@ -27,15 +27,19 @@ is_frame line = is_hex line && leb (length line) (2 * frame_limit)
 -- ---- each frame goes once to take of one fresh server; bytes after the first packet are dropped
 
 -- take's answer depends on the storage's length alone, and the storage has 32,768 bytes
-abbrev pub taken : End → List ℕ → Taken
+abbrev pub taken : End → List ℕ → TakeAnswer
 taken e frame = take_of base e frame (storage_length payload_limit slot_count)
+
+-- the server after a frame's take
+abbrev pub end_taken : End → List ℕ → End
+end_taken e frame = (taken e frame).end
 
 -- the unread packets of the frame's session (0 where there is no session), after the take
 unfoldable pub unread_for : End → List ℕ → ℕ
 unread_for e frame = if (is_short frame) 0 (unread_of (read_header frame).sid e.slots)
 
 abbrev pub unread_after : End → List ℕ → ℕ
-unread_after e frame = unread_for (taken e frame).end frame
+unread_after e frame = unread_for (end_taken e frame) frame
 
 -- ---- it prints the line number, take's answer, the frame's SID and that session's unread packets
 
@@ -47,4 +51,4 @@ unfoldable pub line_text : ℕ → End → List ℕ → List ℕ
 line_text n e line = if (is_frame line) (frame_text n e (from_hex line)) (bad_text n)
 
 unfoldable pub end_after : End → List ℕ → End
-end_after e line = if (is_frame line) (taken e (from_hex line)).end e
+end_after e line = if (is_frame line) (end_taken e (from_hex line)) e

@@ -1,21 +1,26 @@
 -- What the code makes of a line, and of the storage. No contract of `feed` cites this file.
-use Rattle.std.specs.Prelude.{ℕ, List}
+use Rattle.std.specs.Prelude.{ℕ, List, Option, Some, None}
 use Rattle.cases.specs.Cases.{if}
 use Rattle.text.specs.Hex.{from_hex}
-use Rattle.report.specs.Lines.{bad_line, line_of}
+use Rattle.report.specs.declared.Line.{Line}
+use Rattle.report.specs.declared.Line.TheVariants.{Bad}
+use Rattle.report.specs.Lines.{line_of}
 use Rattle.table.specs.declared.end.End.{End}
 use Rattle.table.specs.Limits.{base}
 use Rattle.take.specs.Take.{take_storage}
-use Rattle.fed.specs.declared.Fed.{Fed}
 use Rattle.fed.specs.Line.{is_frame, taken, unread_after}
 
--- what the report tells of a frame, and the server after it
-abbrev pub frame_fed : End → List ℕ → Fed
-frame_fed e frame = record { line = line_of (taken e frame).number frame (unread_after e frame); end = (taken e frame).end }
+-- the frame that a line is
+abbrev pub frame_of : List ℕ → Option (List ℕ)
+frame_of line = if (is_frame line) (Some (from_hex line)) None
+
+-- what the report tells of a frame
+abbrev pub frame_told : End → List ℕ → Line
+frame_told e frame = line_of (taken e frame).number frame (unread_after e frame)
 
 -- the same of a line
-unfoldable pub line_fed : End → List ℕ → Fed
-line_fed e line = if (is_frame line) (frame_fed e (from_hex line)) record { line = bad_line; end = e }
+unfoldable pub line_told : End → List ℕ → Line
+line_told e line = if (is_frame line) (frame_told e (from_hex line)) Bad
 
 -- and the storage after it
 unfoldable pub line_storage : End → List ℕ → List ℕ → List ℕ

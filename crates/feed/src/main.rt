@@ -20,11 +20,11 @@ fn read_full(mut from: Stdin, input: &mut [u8]) -> usize
 {
     let mut n = 0;
     while n < input.len() {
-        match from.read(&mut input[n..]) {
-            Ok(0) => return n,
-            Ok(k) => n += k,
-            Err(_) => return n,
+        let k = from.read(&mut input[n..]).unwrap_or(0);
+        if k == 0 {
+            break;
         }
+        n += k;
     }
     n
 }

@@ -1,8 +1,18 @@
 -- The rooms that calls get for packets and payloads: how much of one is asked for, and whether a call wrote where it mustn't.
-use Rattle.std.specs.Prelude.{ℕ, ◌*◌, Bool, true, not, ◌&&◌, List, [], ◌∷◌, length, drop, eqb, leb}
+use Rattle.std.specs.Prelude.{ℕ, ◌*◌, Bool, not, ◌&&◌, ◌==◌, List, [], length, take, drop, leb}
+use Rattle.std.specs.List.{list_all}
 use Rattle.cases.specs.Cases.{if, done}
 use Rattle.words.specs.Words.{room_length}
 use Rattle.text.specs.Hex.{is_hex, from_hex}
+
+-- an array of which calls are lent so many bytes, from the front on
+pub record Part : Type 0 where
+  pub bytes : List ℕ
+  pub count : ℕ
+
+-- the bytes that are lent
+abbrev pub lent_of : Part → List ℕ
+lent_of p = take p.count p.bytes
 
 -- the byte that rooms are filled with
 abbrev pub fill : ℕ
@@ -12,9 +22,9 @@ fill = 165
 abbrev pub bytes_of : List ℕ → List ℕ
 bytes_of chars = if (is_hex chars && leb (length chars) (2 * room_length)) (from_hex chars) []
 
-unfoldable pub is_filled : List ℕ → Bool
-is_filled [] = true
-is_filled (b ∷ bs) = eqb b fill && is_filled bs
+-- each byte is that one
+abbrev pub is_filled : List ℕ → Bool
+is_filled room = list_all (λ b. b == fill) room
 
 -- a call with this number wrote behind its front, or anywhere if it refused
 abbrev pub is_touched : ℕ → ℕ → List ℕ → Bool

@@ -1,122 +1,142 @@
-// The answer line, made in one buffer, field after field. Each function puts something at a place and answers the place behind it; where there is
-// no room it puts nothing, so callers owe it a place in the buffer and no more.
-ghost use Rattle.std.specs.Prelude.{◌≤◌};
-ghost use Rattle.fields.specs.Answer.{longest, Behind};
+// The answer line, made in one buffer, field after field. What there is no room for is left out.
+ghost use Rattle.std.specs.Prelude.{◌≡◌, ℕ, ◌*◌, ◌≤◌, List, [], ◌∷◌, length, take};
+ghost use Rattle.text.specs.Hex.{to_hex};
+ghost use Rattle.fields.specs.Answer.{longest, behind, spaced, word, digits, number, each, bytes};
 
+use std::marker::Model;
 use text::{decimal, hex};
 
 // Room for every answer: two rooms of 8,192 bytes in digits, which read's has at most, and 64 characters for the rest of the line. Peek's answer
 // has 8,192 digits at most, and show's sixteen slots of 90 characters.
 pub const LONGEST: usize = 32832;
 
-pub type Buffer = [u8; LONGEST];
+// The line as far as it has come, in the front of its buffer. A contract sees its characters.
+#[derive(Drop)]
+pub struct Answer {
+    buffer: [u8; LONGEST],
+    length: usize,
+}
 
-// Copies all of `chars` into the answer line from place `at` on, and answers the place behind them; no other byte changes. Where they don't all fit,
-// nothing is written, and the answer is `at`.
-pub fn put(out: &mut Buffer, at: usize, chars: &[u8]) -> usize
-    requires { at ≤ longest }
-    ensures { Behind at result }
-{
-    if LONGEST - at < chars.len() {
-        return at;
+impl Model for Answer {
+    ghost Value = { List ℕ };
+
+    ghost view = { λ a. take a.length a.buffer };
+
+    ghost invariant = { λ a. a.length ≤ longest };
+}
+
+impl Answer {
+    // A line without characters.
+    pub fn new() -> Answer
+        ensures { result ≡ [] }
+    {
+        Answer {
+            buffer: [0; LONGEST],
+            length: 0,
+        }
     }
-    buffer::copy_in(out, at, chars);
-    at + chars.len()
-}
 
-// Writes one character at place `at`, and answers the place behind it; no other byte changes. At the buffer's end nothing is written, and the answer
-// is `at`.
-pub fn byte(out: &mut Buffer, at: usize, c: u8) -> usize
-    requires { at ≤ longest }
-    ensures { Behind at result }
-{
-    if at == LONGEST {
-        return at;
+    // The characters of the line.
+    pub fn line(&self) -> &[u8]
+        ensures { result.now ≡ self.now }
+    {
+        &self.buffer[..self.length]
     }
-    out[at] = c;
-    at + 1
-}
 
-// Writes n from place `at` on in the fewest decimal digits, and answers the place behind them. Where fewer than ten places are left, it writes
-// nothing and answers `at`.
-fn digits(out: &mut Buffer, at: usize, n: u32) -> usize
-    requires { at ≤ longest }
-    ensures { Behind at result }
-{
-    if LONGEST - at < 10 {
-        return at;
+    // Takes all characters away.
+    pub fn clear(&mut self)
+        ensures { self.new ≡ [] }
+    {
+        self.length = 0;
     }
-    decimal::put(out, at, n)
-}
 
-// Writes bytes from place `at` on, two lower-case hexadecimal digits a byte, and answers the place behind them. Where they don't all fit, it writes
-// nothing and answers `at`.
-fn pairs(out: &mut Buffer, at: usize, bytes: &[u8]) -> usize
-    requires { at ≤ longest }
-    ensures { Behind at result }
-{
-    if (LONGEST - at) / 2 < bytes.len() {
-        return at;
+    // Puts all of `chars` behind the line; where they don't all fit, nothing.
+    pub fn put(&mut self, chars: &[u8])
+        ensures { self.new ≡ behind (length chars.now) chars.now self.old }
+    {
+        if LONGEST - self.length < chars.len() {
+            return;
+        }
+        let end = self.length + chars.len();
+        self.buffer[self.length..end].copy_from_slice(chars);
+        self.length = end;
     }
-    hex::put(out, at, bytes)
-}
 
-// Writes the space before every field but the first, and answers the place behind it. At place 0 it writes nothing.
-fn space(out: &mut Buffer, at: usize) -> usize
-    requires { at ≤ longest }
-    ensures { Behind at result }
-{
-    if at == 0 {
-        return at;
+    // Puts one character behind the line; where it is full, nothing.
+    pub fn byte(&mut self, c: u8)
+        ensures { self.new ≡ behind 1 (c ∷ []) self.old }
+    {
+        if self.length == LONGEST {
+            return;
+        }
+        self.buffer[self.length] = c;
+        self.length += 1;
     }
-    byte(out, at, b' ')
-}
 
-// Writes a field from place `at` on: a space, unless `at` is 0, and all of `chars`. Answers the place behind what was written; what doesn't fit is
-// left out, and no other byte changes.
-pub fn word(out: &mut Buffer, at: usize, chars: &[u8]) -> usize
-    requires { at ≤ longest }
-    ensures { Behind at result }
-{
-    let k = space(out, at);
-    put(out, k, chars)
-}
-
-// Writes a field from place `at` on: a space, unless `at` is 0, and n in the fewest decimal digits. Answers the place behind what was written; where
-// fewer than ten places are left the digits are left out, and no other byte changes.
-pub fn number(out: &mut Buffer, at: usize, n: u32) -> usize
-    requires { at ≤ longest }
-    ensures { Behind at result }
-{
-    let k = space(out, at);
-    digits(out, k, n)
-}
-
-// Writes all of the numbers from place `from` on, in decimal, each behind the character `mark`. Answers the place behind what was written, `from`
-// where there are no numbers; what doesn't fit is left out, and no other byte changes.
-pub fn each(out: &mut Buffer, from: usize, mark: u8, numbers: &[u32]) -> usize
-    requires { from ≤ longest }
-    ensures { Behind from result }
-{
-    let mut at = from;
-    let mut i = 0;
-    while i < numbers.len() {
-        let k = byte(out, at, mark);
-        at = digits(out, k, numbers[i]);
-        i += 1;
+    // Puts n in the fewest decimal digits behind the line; where fewer than ten places are left, nothing.
+    fn digits(&mut self, n: u32)
+        ensures { self.new ≡ digits n self.old }
+    {
+        if LONGEST - self.length < 10 {
+            return;
+        }
+        self.length = decimal::put(&mut self.buffer, self.length, n);
     }
-    at
-}
 
-// Writes a field from place `at` on: a space, unless `at` is 0, and the bytes as lower-case hexadecimal, or `-` for none. Answers the place behind
-// what was written; what doesn't fit is left out, and no other byte changes.
-pub fn bytes(out: &mut Buffer, at: usize, b: &[u8]) -> usize
-    requires { at ≤ longest }
-    ensures { Behind at result }
-{
-    let k = space(out, at);
-    if b.len() == 0 {
-        return byte(out, k, b'-');
+    // Puts bytes behind the line, two lower-case hexadecimal digits a byte; where they don't all fit, nothing.
+    fn pairs(&mut self, bytes: &[u8])
+        ensures { self.new ≡ behind (2 * length bytes.now) (to_hex bytes.now) self.old }
+    {
+        if (LONGEST - self.length) / 2 < bytes.len() {
+            return;
+        }
+        self.length = hex::put(&mut self.buffer, self.length, bytes);
     }
-    pairs(out, k, b)
+
+    // Puts the space before every field but the first.
+    fn space(&mut self)
+        ensures { self.new ≡ spaced self.old }
+    {
+        if self.length != 0 {
+            self.byte(b' ');
+        }
+    }
+
+    // Puts a field behind the line: a space, unless it is the first, and all of `chars`.
+    pub fn word(&mut self, chars: &[u8])
+        ensures { self.new ≡ word chars.now self.old }
+    {
+        self.space();
+        self.put(chars);
+    }
+
+    // Puts a field behind the line: a space, unless it is the first, and n in the fewest decimal digits.
+    pub fn number(&mut self, n: u32)
+        ensures { self.new ≡ number n self.old }
+    {
+        self.space();
+        self.digits(n);
+    }
+
+    // Puts all of the numbers behind the line, in decimal, each behind the character `mark`.
+    pub fn each(&mut self, mark: u8, numbers: &[u32])
+        ensures { self.new ≡ each mark numbers.now self.old }
+    {
+        for n in numbers {
+            self.byte(mark);
+            self.digits(*n);
+        }
+    }
+
+    // Puts a field behind the line: a space, unless it is the first, and the bytes as lower-case hexadecimal, or `-` for none.
+    pub fn bytes(&mut self, b: &[u8])
+        ensures { self.new ≡ bytes b.now self.old }
+    {
+        self.space();
+        if b.is_empty() {
+            self.byte(b'-');
+        } else {
+            self.pairs(b);
+        }
+    }
 }

@@ -1,110 +1,102 @@
-// The answer line of each call, and of the program's own lines: its fields from the place 0 on. Each function answers the line's length.
-ghost use Rattle.std.specs.Prelude.{◌≤◌};
-ghost use Rattle.fields.specs.Answer.{longest};
+// The answer line of each call, and of the program's own lines: its fields, put behind what stands in the line.
+ghost use Rattle.std.specs.Prelude.{◌≡◌};
+ghost use Rattle.fields.specs.Answer.{number};
+ghost use Rattle.fields.specs.Reply.{marked, packet, sent, opened, got, few, taken, ok, bad, peeked};
 
-use crate::answer::Buffer;
-use crate::{answer, rooms, show};
-use table::end::End;
-use text::line::LF;
-use words::forms::Form;
+use crate::answer::Answer;
+use crate::rooms::{front, touched};
 use words::limits;
 
-// Makes the answer line of start and shutdown, NUMBER, at the buffer's front, and answers its length. Later bytes stay.
-pub fn done(out: &mut Buffer, n: u8) -> usize
-    ensures { result ≤ longest }
+// NUMBER, of start and shutdown.
+pub fn done(answer: &mut Answer, n: u8)
+    ensures { answer.new ≡ number n answer.old }
 {
-    answer::number(out, 0, n as u32)
+    answer.number(u32::from(n));
 }
 
-// Makes the answer line of send and close, NUMBER PACKET, at the buffer's front, and answers its length. PACKET is the first `length` bytes of the
-// room that the call was lent; ` touched` follows if the call wrote into the room where it mustn't. Later bytes stay.
-pub fn sent(out: &mut Buffer, n: u8, length: usize, room: &[u8]) -> usize
-    ensures { result ≤ longest }
+// NUMBER PACKET, of send and close. PACKET is the first `length` bytes of the room that the call was lent; ` touched` follows if the call wrote into
+// the room where it mustn't.
+pub fn sent(answer: &mut Answer, n: u8, length: usize, room: &[u8])
+    ensures { answer.new ≡ sent n length room.now answer.old }
 {
-    let at = done(out, n);
-    rooms::packet(out, at, n, length, room)
+    done(answer, n);
+    packet(answer, n, length, room);
 }
 
-// Makes the answer line of open, NUMBER SID PACKET, at the buffer's front, and answers its length. PACKET is as in `sent`. Later bytes stay.
-pub fn opened(out: &mut Buffer, n: u8, sid: u16, length: usize, room: &[u8]) -> usize
-    ensures { result ≤ longest }
+// NUMBER SID PACKET, of open. PACKET is as in `sent`.
+pub fn opened(answer: &mut Answer, n: u8, sid: u16, length: usize, room: &[u8])
+    ensures { answer.new ≡ opened n sid length room.now answer.old }
 {
-    let a = done(out, n);
-    let b = answer::number(out, a, sid as u32);
-    rooms::packet(out, b, n, length, room)
+    done(answer, n);
+    answer.number(u32::from(sid));
+    packet(answer, n, length, room);
 }
 
-// Makes the answer line of read, NUMBER PAYLOAD ACK, at the buffer's front, and answers its length. PAYLOAD is the first `length` bytes of `room`,
-// ACK the first `second` of `ack`; ` touched` follows if the call wrote into either where it mustn't. Later bytes stay.
-pub fn got(out: &mut Buffer, n: u8, length: usize, room: &[u8], second: usize, ack: &[u8]) -> usize
-    ensures { result ≤ longest }
+fn packet(answer: &mut Answer, n: u8, length: usize, room: &[u8])
+    ensures { answer.new ≡ packet n length room.now answer.old }
 {
-    let at = done(out, n);
-    rooms::packets(out, at, n, length, room, second, ack)
+    answer.bytes(front(room, length));
+    mark(answer, touched(n, length, room));
 }
 
-// Makes the answer line of take, NUMBER USED KIND SID MISSING, at the buffer's front, and answers its length. Later bytes stay.
-pub fn taken(out: &mut Buffer, n: u8, used: usize, kind: u8, sid: u16, missing: usize) -> usize
-    ensures { result ≤ longest }
+// NUMBER PAYLOAD ACK, of read. PAYLOAD is the first `length` bytes of `room`, ACK the first `second` of `ack`; ` touched` follows if the call wrote
+// into either where it mustn't.
+pub fn got(answer: &mut Answer, n: u8, length: usize, room: &[u8], second: usize, ack: &[u8])
+    ensures { answer.new ≡ got n length room.now second ack.now answer.old }
 {
-    let at = done(out, n);
-    let rest = [few(used), kind as u32, sid as u32, few(missing)];
-    answer::each(out, at, b' ', &rest)
+    done(answer, n);
+    answer.bytes(front(room, length));
+    answer.bytes(front(ack, second));
+    mark(answer, touched(n, length, room) || touched(n, second, ack));
+}
+
+// The last field, where a room was touched.
+fn mark(answer: &mut Answer, is_touched: bool)
+    ensures { answer.new ≡ marked is_touched answer.old }
+{
+    if is_touched {
+        answer.word(b"touched");
+    }
+}
+
+// NUMBER USED KIND SID MISSING, of take.
+pub fn taken(answer: &mut Answer, n: u8, used: usize, kind: u8, sid: u16, missing: usize)
+    ensures { answer.new ≡ taken n used kind sid missing answer.old }
+{
+    done(answer, n);
+    let rest = [few(used), u32::from(kind), u32::from(sid), few(missing)];
+    answer.each(b' ', &rest);
 }
 
 // A count of bytes as 32 bits. It is never over 2^32 - 1; a larger one would be 0.
-fn few(n: usize) -> u32 {
-    if 4294967295 < n {
-        return 0;
+fn few(n: usize) -> u32
+    ensures { result ≡ few n }
+{
+    u32::try_from(n).unwrap_or(0)
+}
+
+// The answer to lend, record and end.
+pub fn ok(answer: &mut Answer)
+    ensures { answer.new ≡ ok answer.old }
+{
+    answer.word(b"ok");
+}
+
+// The answer to a line that is none of the program's.
+pub fn bad(answer: &mut Answer)
+    ensures { answer.new ≡ bad answer.old }
+{
+    answer.word(b"bad");
+}
+
+// BYTES, of peek: the bytes that the line asks for of the storage, `bad` where it ends before.
+pub fn peeked(answer: &mut Answer, line: &[u8], storage: &[u8])
+    ensures { answer.new ≡ peeked line.now storage.now answer.old }
+{
+    let at = words::value(line, 1, limits::STORAGE).unwrap_or(0) as usize;
+    let n = words::value(line, 2, limits::PEEK).unwrap_or(0) as usize;
+    match storage.get(at..at + n) {
+        Some(bytes) => answer.bytes(bytes),
+        None => bad(answer),
     }
-    n as u32
-}
-
-// Makes the answer line of one of the program's own lines at the buffer's front, and answers its length: `ok` for lend, record and end, the fields of
-// the end for show, the bytes that the line asks for of the storage for peek, and `bad` for any other form. Later bytes stay.
-pub fn own(out: &mut Buffer, e: End, form: Form, line: &[u8], storage: &[u8]) -> usize
-    ensures { result ≤ longest }
-{
-    match form {
-        Form::Lend | Form::Record | Form::End => answer::word(out, 0, b"ok"),
-        Form::Show => show::end(out, e),
-        Form::Peek => peeked(out, line, storage),
-        _ => bad(out),
-    }
-}
-
-// Makes the answer line `bad`, and answers its length.
-fn bad(out: &mut Buffer) -> usize
-    ensures { result ≤ longest }
-{
-    answer::word(out, 0, b"bad")
-}
-
-// BYTES, of peek: N bytes of the storage from AT on.
-fn peeked(out: &mut Buffer, line: &[u8], storage: &[u8]) -> usize
-    ensures { result ≤ longest }
-{
-    let at = words::value(line, 1, limits::STORAGE) as usize;
-    let n = words::value(line, 2, limits::PEEK) as usize;
-    part(out, storage, at, at + n)
-}
-
-// From one place to another; `bad` where the storage ends before.
-fn part(out: &mut Buffer, storage: &[u8], at: usize, end: usize) -> usize
-    requires { at ≤ end }
-    ensures { result ≤ longest }
-{
-    if storage.len() < end {
-        return bad(out);
-    }
-    answer::bytes(out, 0, &storage[at..end])
-}
-
-// Writes LF behind an answer line of that length, and answers the new length; no other byte changes. Where the buffer is full, nothing is written,
-// and the answer is the buffer's length.
-pub fn ended(out: &mut Buffer, length: usize) -> usize
-    ensures { result ≤ longest }
-{
-    let at = rooms::within(length, out);
-    answer::byte(out, at, LF)
 }

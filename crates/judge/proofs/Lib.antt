@@ -1,2 +1,3 @@
-pub mod Acts
-pub mod Outcome
+pub mod Seen
+pub mod Numbers
+pub mod Zero

@@ -1,46 +1,37 @@
--- What is to be done with a packet, as the parts of judge's code promise it to each other and to take. No public promise cites this file.
-use Rattle.std.specs.Prelude.{ℕ, ◌-◌, Bool, List, ◌++◌, length, ltb}
-use Rattle.cases.specs.Cases.{if, first, done}
+-- What is to be done with a packet, as judge promises it to take.
+use Rattle.std.specs.Prelude.{ℕ, ◌+◌, ◌<◌, ◌≤◌, ◌≡◌, List, length, Some}
 use Rattle.wire.specs.declared.header.Header.{Header}
 use Rattle.wire.specs.declared.kind.Kind.{Kind}
 use Rattle.wire.specs.declared.kind.Kind.TheVariants.{Syn, Ack, Fin, Data}
-use Rattle.wire.specs.declared.kind.Flags.{Flags}
-use Rattle.wire.specs.declared.kind.Flags.TheVariants.{One, Wrong}
-use Rattle.wire.specs.Packet.{header_length, read_header, no_header, flags_of}
-use Rattle.session.specs.declared.record.Session.{Session}
+use Rattle.wire.specs.Packet.{header_length, read_header, flags_of}
+use Rattle.session.specs.Record.{payload_limit}
 use Rattle.effect.specs.Taken.{cell_of}
-use Rattle.table.specs.declared.end.Role.{Role}
-use Rattle.table.specs.Limits.{base}
+use Rattle.table.specs.declared.end.End.{End}
+use Rattle.table.specs.End.{slot_count}
+use Rattle.table.specs.Slots.{session_of, slot_of, lowest_free}
+use Rattle.table.specs.Storage.{storage_length}
 use Rattle.judge.specs.declared.Act.{Act}
-use Rattle.judge.specs.declared.Act.TheVariants.{Stop, Begin, Do}
-use Rattle.judge.specs.Number.{take_cases, packet_cases, kind_cases}
+use Rattle.judge.specs.declared.Act.TheVariants.{Begin, Do}
+use Rattle.judge.specs.declared.Judged.{Judged}
 
--- the header at the front; all zeros where there are fewer than sixteen bytes
-abbrev pub front_of : List ℕ → Header
-front_of bytes = if (ltb (length bytes) header_length) no_header (read_header bytes)
+-- a SYN begins a session in the lowest free slot; for the others the table says what is done with the session that the packet names
+abbrev pub does : Kind → Header → End → Act
+does k h e = Do (record { slot = slot_of h.sid e.slots; session = session_of h.sid e.slots }) (cell_of (session_of h.sid e.slots).state k)
 
-abbrev pub missing_of : Header → ℕ → ℕ
-missing_of h given = if (ltb given header_length) (header_length - given) (h.length - given)
+abbrev pub act_of : Kind → Header → End → Act
+act_of Syn h e = Begin (lowest_free e.slots)
+act_of Ack h e = does Ack h e
+act_of Fin h e = does Fin h e
+act_of Data h e = does Data h e
 
--- what is done with a packet that meets no refusal
-abbrev pub kind_act : Flags → Session → Act
-kind_act (One Syn) x = Begin
-kind_act (One Ack) x = Do (cell_of x.state Ack)
-kind_act (One Fin) x = Do (cell_of x.state Fin)
-kind_act (One Data) x = Do (cell_of x.state Data)
-kind_act Wrong x = Stop 21
-
-abbrev pub acted : ℕ → Header → Session → Act
-acted n h x = done n (kind_act (flags_of h.flags) x) (Stop n)
-
-unfoldable pub kind_act_of : Kind → Role → Bool → Bool → Session → Header → Act
-kind_act_of k role held none x h =
-    done (first (kind_cases base (One k) role held none x h)) (kind_act (One k) x)
-    (Stop (first (kind_cases base (One k) role held none x h)))
-
-unfoldable pub packet_act_of : Role → Bool → Bool → Session → Header → ℕ → Act
-packet_act_of role held none x h given = acted (first (packet_cases base role held none x h given)) h x
-
-unfoldable pub act_of : Bool → Bool → Bool → Role → Bool → Bool → Session → Header → ℕ → Act
-act_of made up short role held none x h given =
-    acted (first (take_cases made up short given ++ packet_cases base role held none x h given)) h x
+-- what is known of a packet that meets neither refusal nor fault
+pub record IsJudged (j : Judged) (e : End) (bytes : List ℕ) (storage : ℕ) : Type 0 where
+  pub header : j.header ≡ read_header bytes
+  pub kind : flags_of j.header.flags ≡ Some j.kind
+  pub act : j.act ≡ act_of j.kind j.header e
+  pub low : header_length ≤ j.header.length
+  pub high : j.header.length ≤ header_length + payload_limit
+  pub there : j.header.length ≤ length bytes
+  pub room : storage_length payload_limit slot_count ≤ storage
+  -- for all kinds but SYN the session is in one of the slots
+  pub within : (j.kind ≡ Syn → ⊥) → slot_of j.header.sid e.slots < slot_count

@@ -1,2 +1,4 @@
 pub mod Number
+pub mod Stops
 pub mod Act
+pub mod Parts

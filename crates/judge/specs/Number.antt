@@ -1,12 +1,10 @@
 -- The number that take gives: 12, 1, 9 (storage); 10 if under 16 bytes; 20, 21, 22; 10 if under LENGTH; then for SYN 24, 25, 26, 27, for
 -- others 23, 30, 28, 29 (document 01, "Numbers that come back"); and 10's count.
-use Rattle.std.specs.Prelude.{ℕ, ◌-◌, Bool, true, false, not, ◌&&◌, List, [], ◌∷◌, ◌++◌, length, eqb, ltb}
+use Rattle.std.specs.Prelude.{ℕ, ◌-◌, Bool, true, false, not, ◌&&◌, List, [], ◌∷◌, ◌++◌, length, eqb, ltb, Option, Some, None}
 use Rattle.cases.specs.Cases.{Case, ◌⇒◌, if, first}
 use Rattle.wire.specs.declared.header.Header.{Header}
 use Rattle.wire.specs.declared.kind.Kind.{Kind}
 use Rattle.wire.specs.declared.kind.Kind.TheVariants.{Syn, Ack, Fin, Data}
-use Rattle.wire.specs.declared.kind.Flags.{Flags}
-use Rattle.wire.specs.declared.kind.Flags.TheVariants.{One, Wrong}
 use Rattle.wire.specs.Packet.{header_length, read_header, flags_of, header_cases}
 use Rattle.session.specs.declared.record.Session.{Session}
 use Rattle.session.specs.Record.{fin_received}
@@ -41,12 +39,12 @@ other_cases lim k held x h =
     ∷ not (seqnum_in_range x k h.seqnum) ⇒ 29
     ∷ []
 
-abbrev pub kind_cases : Limits → Flags → Role → Bool → Bool → Session → Header → List Case
-kind_cases lim (One Syn) role held none x h = syn_cases lim role held none h
-kind_cases lim (One Ack) role held none x h = other_cases lim Ack held x h
-kind_cases lim (One Fin) role held none x h = other_cases lim Fin held x h
-kind_cases lim (One Data) role held none x h = other_cases lim Data held x h
-kind_cases lim Wrong role held none x h = []
+abbrev pub kind_cases : Limits → Option Kind → Role → Bool → Bool → Session → Header → List Case
+kind_cases lim (Some Syn) role held none x h = syn_cases lim role held none h
+kind_cases lim (Some Ack) role held none x h = other_cases lim Ack held x h
+kind_cases lim (Some Fin) role held none x h = other_cases lim Fin held x h
+kind_cases lim (Some Data) role held none x h = other_cases lim Data held x h
+kind_cases lim None role held none x h = []
 
 -- 20, 21, 22, 10 if under LENGTH, then by kind, for a header and so many bytes given
 abbrev pub packet_cases : Limits → Role → Bool → Bool → Session → Header → ℕ → List Case

@@ -3,6 +3,7 @@
 -- Send, read and close are stated where the table holds the session: else they answer 4, or 12 or 1 before it, as laws/proofs/Exact.antt has it.
 -- Open and take ask for role and whether a slot is free, open also for the smallest SID that isn't held; what they leave in their own slot is
 -- said where they answer 0 (else the record is as lent, or down, as laws/proofs/Demand1.antt has it).
+use Rattle.std.specs.Prelude.{None, Option, Some}
 use Prim.Native.Nat.{ℕ, ◌+◌, ◌≤◌, ◌<◌}
 use native.Mathlib.Omega.{arith}
 use mathlib.Core.Path.{◌≡◌, refl, sym, ap, ◌∙◌}
@@ -16,9 +17,8 @@ use borrow.Author.Tests.{eqb-true}
 use Rattle.cases.specs.Cases.{Case, if, first, done}
 use Rattle.cases.proofs.First.{done_0}
 use Rattle.wire.specs.declared.header.Header.{Header}
+use Rattle.wire.specs.declared.kind.Kind.{Kind}
 use Rattle.wire.specs.declared.kind.Kind.TheVariants.{Syn, Ack, Fin, Data}
-use Rattle.wire.specs.declared.kind.Flags.{Flags}
-use Rattle.wire.specs.declared.kind.Flags.TheVariants.{One, Wrong}
 use Rattle.wire.specs.Packet.{header_length, read_header, flags_of, packet_bytes, header_bytes}
 use Rattle.buffer.specs.Onto.{onto}
 use Rattle.session.specs.declared.record.Session.{Session}
@@ -32,11 +32,11 @@ use Rattle.table.specs.Storage.{storage_length}
 use Rattle.table.specs.End.{changed_of}
 use Rattle.table.proofs.Slots.{held, within, absent, session_at, changed_at}
 use Rattle.table.proofs.Lowest.{full_lowest, lowest_within}
-use Rattle.open.specs.declared.Opened.{Opened}
-use Rattle.send.specs.declared.Sent.{Sent}
-use Rattle.read.specs.declared.Got.{Got}
-use Rattle.close.specs.declared.Closed.{Closed}
-use Rattle.take.specs.declared.Taken.{Taken}
+use Rattle.open.specs.Open.{OpenAnswer}
+use Rattle.send.specs.Send.{SendAnswer}
+use Rattle.read.specs.Read.{ReadAnswer}
+use Rattle.close.specs.Close.{CloseAnswer}
+use Rattle.take.specs.Take.{TakeAnswer}
 use Rattle.table.specs.Limits.{base}
 use Rattle.table.specs.Well.{well_made}
 use Rattle.calling.specs.Calling.{called, calling, short_storage}
@@ -133,7 +133,7 @@ module _ {sid : ℕ} {e e' : End} (same : Alike sid e e') where
       (ap (λ d. get_or d.slots (slot_of sid e.slots) free) y ∙ sym (session_at sid e.slots) ∙ same.session
       ∙ session_at sid e'.slots ∙ sym (ap (λ d. get_or d.slots (slot_of sid e'.slots) free) y'))
 
-  pub send_alike : {payload lent exit exit' : List ℕ} {r r' : Sent} → SendPromise e sid payload lent r exit → SendPromise e' sid payload lent r' exit'
+  pub send_alike : {payload lent exit exit' : List ℕ} {r r' : SendAnswer} → SendPromise e sid payload lent r exit → SendPromise e' sid payload lent r' exit'
       → holds sid e.slots ≡ true
       → (r.number ≡ r'.number) × (r.length ≡ r'.length) × (exit ≡ exit')
       × (get_or r.end.slots (slot_of sid e.slots) free ≡ get_or r'.end.slots (slot_of sid e'.slots) free)
@@ -147,16 +147,16 @@ module _ {sid : ℕ} {e e' : End} (same : Alike sid e e') where
       let a' = send_done (header_length + len) (changed_of sid sent_on e') in
       let b = send_refused n e in
       let b' = send_refused n' e' in (
-        equal n n' 0 0 n n' (part (λ (r : Sent). r.number) n a b p.answer) (part (λ (r : Sent). r.number) n' a' b' p'.answer) q refl q,
-        equal n n' (header_length + len) (header_length + len) 0 0 (part (λ (r : Sent). r.length) n a b p.answer)
-            (part (λ (r : Sent). r.length) n' a' b' p'.answer) q refl refl,
+        equal n n' 0 0 n n' (part (λ (r : SendAnswer). r.number) n a b p.answer) (part (λ (r : SendAnswer). r.number) n' a' b' p'.answer) q refl q,
+        equal n n' (header_length + len) (header_length + len) 0 0 (part (λ (r : SendAnswer). r.length) n a b p.answer)
+            (part (λ (r : SendAnswer). r.length) n' a' b' p'.answer) q refl refl,
         p.packet
             ∙ ap (λ o. onto o lent) (equal n n' _ _ [] [] refl refl q (ap (λ x. packet_bytes (data_header x len) payload) same.session) refl)
             ∙ sym p'.packet,
-        after (λ (r : Sent). r.end) sent_on n n' a b a' b' p.answer p'.answer q refl refl refl refl h,
+        after (λ (r : SendAnswer). r.end) sent_on n n' a b a' b' p.answer p'.answer q refl refl refl refl h,
       )
 
-  pub close_alike : {lent exit exit' : List ℕ} {r r' : Closed} → ClosePromise e sid lent r exit → ClosePromise e' sid lent r' exit'
+  pub close_alike : {lent exit exit' : List ℕ} {r r' : CloseAnswer} → ClosePromise e sid lent r exit → ClosePromise e' sid lent r' exit'
       → holds sid e.slots ≡ true
       → (r.number ≡ r'.number) × (r.length ≡ r'.length) × (exit ≡ exit')
       × (get_or r.end.slots (slot_of sid e.slots) free ≡ get_or r'.end.slots (slot_of sid e'.slots) free)
@@ -169,14 +169,14 @@ module _ {sid : ℕ} {e e' : End} (same : Alike sid e e') where
       let a' = close_done (changed_of sid closed_on e') in
       let b = close_refused n e in
       let b' = close_refused n' e' in (
-        equal n n' 0 0 n n' (part (λ (r : Closed). r.number) n a b p.answer) (part (λ (r : Closed). r.number) n' a' b' p'.answer) q refl q,
-        equal n n' header_length header_length 0 0 (part (λ (r : Closed). r.length) n a b p.answer)
-            (part (λ (r : Closed). r.length) n' a' b' p'.answer) q refl refl,
+        equal n n' 0 0 n n' (part (λ (r : CloseAnswer). r.number) n a b p.answer) (part (λ (r : CloseAnswer). r.number) n' a' b' p'.answer) q refl q,
+        equal n n' header_length header_length 0 0 (part (λ (r : CloseAnswer). r.length) n a b p.answer)
+            (part (λ (r : CloseAnswer). r.length) n' a' b' p'.answer) q refl refl,
         p.packet ∙ ap (λ o. onto o lent) (equal n n' _ _ [] [] refl refl q (ap (λ x. header_bytes (fin_header x)) same.session) refl) ∙ sym p'.packet,
-        after (λ (r : Closed). r.end) closed_on n n' a b a' b' p.answer p'.answer q refl refl refl refl h,
+        after (λ (r : CloseAnswer). r.end) closed_on n n' a b a' b' p.answer p'.answer q refl refl refl refl h,
       )
 
-  pub read_alike : {storage lent lentAck exit exitAck exit' exitAck' : List ℕ} {r r' : Got} → ReadPromise e sid storage lent lentAck r exit exitAck
+  pub read_alike : {storage lent lentAck exit exitAck exit' exitAck' : List ℕ} {r r' : ReadAnswer} → ReadPromise e sid storage lent lentAck r exit exitAck
       → ReadPromise e' sid storage lent lentAck r' exit' exitAck' → holds sid e.slots ≡ true → length e.slots ≡ length e'.slots
       → slot_of sid e.slots ≡ slot_of sid e'.slots
       → (r.number ≡ r'.number) × (r.payload_length ≡ r'.payload_length) × (r.ack_length ≡ r'.ack_length) × (exit ≡ exit') × (exitAck ≡ exitAck')
@@ -196,22 +196,22 @@ module _ {sid : ℕ} {e e' : End} (same : Alike sid e e') where
       let a' = read_done (oldest_length x') (length (ack_on x')) (changed_of sid read_on e') in
       let b = read_refused n e in
       let b' = read_refused n' e' in (
-        equal n n' 0 0 n n' (part (λ (r : Got). r.number) n a b p.answer) (part (λ (r : Got). r.number) n' a' b' p'.answer) q refl q,
-        equal n n' _ _ 0 0 (part (λ (r : Got). r.payload_length) n a b p.answer) (part (λ (r : Got). r.payload_length) n' a' b' p'.answer) q
+        equal n n' 0 0 n n' (part (λ (r : ReadAnswer). r.number) n a b p.answer) (part (λ (r : ReadAnswer). r.number) n' a' b' p'.answer) q refl q,
+        equal n n' _ _ 0 0 (part (λ (r : ReadAnswer). r.payload_length) n a b p.answer) (part (λ (r : ReadAnswer). r.payload_length) n' a' b' p'.answer) q
             (ap oldest_length same.session) refl,
-        equal n n' _ _ 0 0 (part (λ (r : Got). r.ack_length) n a b p.answer) (part (λ (r : Got). r.ack_length) n' a' b' p'.answer) q
+        equal n n' _ _ 0 0 (part (λ (r : ReadAnswer). r.ack_length) n a b p.answer) (part (λ (r : ReadAnswer). r.ack_length) n' a' b' p'.answer) q
             (ap (λ y. length (ack_on y)) same.session) refl,
         p.payload
             ∙ ap (λ o. onto o lent) (equal n n' _ _ [] [] refl refl q (ap (λ i. oldest_in base i x storage) slot
             ∙ ap (λ y. oldest_in base (slot_of sid e'.slots) y storage) same.session) refl)
             ∙ sym p'.payload,
         p.ack ∙ ap (λ o. onto o lentAck) (equal n n' _ _ [] [] refl refl q (ap ack_on same.session) refl) ∙ sym p'.ack,
-        after (λ (r : Got). r.end) read_on n n' a b a' b' p.answer p'.answer q refl refl refl refl h,
+        after (λ (r : ReadAnswer). r.end) read_on n n' a b a' b' p.answer p'.answer q refl refl refl refl h,
       )
 
 -- ---- open: role, whether a slot is free, and the smallest SID not in the table
 
-pub open_alike : {e e' : End} {lent exit exit' : List ℕ} {r r' : Opened} → OpenPromise e lent r exit → OpenPromise e' lent r' exit'
+pub open_alike : {e e' : End} {lent exit exit' : List ℕ} {r r' : OpenAnswer} → OpenPromise e lent r exit → OpenPromise e' lent r' exit'
     → well_made base e ≡ well_made base e' → e.up ≡ e'.up → e.role ≡ e'.role → full e.slots ≡ full e'.slots
     → smallest_sid e.slots ≡ smallest_sid e'.slots
     → (r.number ≡ r'.number) × (r.sid ≡ r'.sid) × (r.length ≡ r'.length) × (exit ≡ exit')
@@ -229,15 +229,15 @@ open_alike {e} {e'} {lent} {exit} {exit'} {r} {r'} p p' g u ρ f s =
     let a' = open_done (smallest_sid e'.slots) (opened_end (smallest_sid e'.slots) e') in
     let b = open_refused n e in
     let b' = open_refused n' e' in
-    let told : r.number ≡ n = part (λ (r : Opened). r.number) n a b p.answer ∙ zero_or n in (
-      equal n n' 0 0 n n' (part (λ (r : Opened). r.number) n a b p.answer) (part (λ (r : Opened). r.number) n' a' b' p'.answer) q refl q,
-      equal n n' _ _ 0 0 (part (λ (r : Opened). r.sid) n a b p.answer) (part (λ (r : Opened). r.sid) n' a' b' p'.answer) q s refl,
-      equal n n' header_length header_length 0 0 (part (λ (r : Opened). r.length) n a b p.answer)
-          (part (λ (r : Opened). r.length) n' a' b' p'.answer) q refl refl,
+    let told : r.number ≡ n = part (λ (r : OpenAnswer). r.number) n a b p.answer ∙ zero_or n in (
+      equal n n' 0 0 n n' (part (λ (r : OpenAnswer). r.number) n a b p.answer) (part (λ (r : OpenAnswer). r.number) n' a' b' p'.answer) q refl q,
+      equal n n' _ _ 0 0 (part (λ (r : OpenAnswer). r.sid) n a b p.answer) (part (λ (r : OpenAnswer). r.sid) n' a' b' p'.answer) q s refl,
+      equal n n' header_length header_length 0 0 (part (λ (r : OpenAnswer). r.length) n a b p.answer)
+          (part (λ (r : OpenAnswer). r.length) n' a' b' p'.answer) q refl refl,
       p.packet ∙ ap (λ o. onto o lent) (equal n n' _ _ [] [] refl refl q (ap (λ k. header_bytes (syn_header k)) s) refl) ∙ sym p'.packet,
-      (λ z. ap (λ (r : Opened). get_or r.end.slots (lowest_free e.slots) free) (p.answer ∙ done_0 n a b (sym told ∙ z))
+      (λ z. ap (λ (r : OpenAnswer). get_or r.end.slots (lowest_free e.slots) free) (p.answer ∙ done_0 n a b (sym told ∙ z))
           ∙ written e.slots e'.slots _ _ (both_new e.slots e'.slots f) (ap fresh_of s)
-          ∙ sym (ap (λ (r : Opened). get_or r.end.slots (lowest_free e'.slots) free) (p'.answer ∙ done_0 n' a' b' (sym q ∙ sym told ∙ z)))),
+          ∙ sym (ap (λ (r : OpenAnswer). get_or r.end.slots (lowest_free e'.slots) free) (p'.answer ∙ done_0 n' a' b' (sym q ∙ sym told ∙ z)))),
     )
 
 -- ---- take: the session with the packet's SID; role and whether a slot is free, which a SYN asks for; and for a stored payload the slot
@@ -256,12 +256,12 @@ shown n bytes e e' = by (eqb n 0) (ltb n 20)
     by false false = refl
 
 -- what is stored goes by the session and its slot
-stored : (f : Flags) (e e' : End) (h : Header) (bytes storage : List ℕ) → session_of h.sid e.slots ≡ session_of h.sid e'.slots
+stored : (f : Option Kind) (e e' : End) (h : Header) (bytes storage : List ℕ) → session_of h.sid e.slots ≡ session_of h.sid e'.slots
     → slot_of h.sid e.slots ≡ slot_of h.sid e'.slots → taken_storage base f e h bytes storage ≡ taken_storage base f e' h bytes storage
-stored (One k) e e' h bytes storage p q =
+stored (Some k) e e' h bytes storage p q =
     ap (λ (x : Session). kept base (cell_of x.state k) (slot_of h.sid e.slots) h bytes storage) p
     ∙ ap (λ (i : ℕ). kept base (cell_of (session_of h.sid e'.slots).state k) i h bytes storage) q
-stored Wrong e e' h bytes storage p q = refl
+stored None e e' h bytes storage p q = refl
 
 -- the record: role stays, a fault takes the end down, and what is filed goes by the session, or is fresh
 abbrev up_after : ℕ → Bool → Bool
@@ -298,15 +298,15 @@ module _ {e e' : End} (h : Header) (same : Alike h.sid e e') where
       ∙ written e.slots e'.slots _ _ (both_held h.sid e.slots e'.slots (holds_alike same)) (ap f same.session)
       ∙ sym (ap (λ (l : List Session). get_or l (slot_of h.sid e'.slots) free) (changed_at h.sid f e'.slots))
 
-  filed : (g : Flags) → full e.slots ≡ full e'.slots
+  filed : (g : Option Kind) → full e.slots ≡ full e'.slots
       → get_or (taken_end g h e).slots (filed_in g h e) free ≡ get_or (taken_end g h e').slots (filed_in g h e') free
-  filed (One Syn) f = written e.slots e'.slots _ _ (both_new e.slots e'.slots f) refl
-  filed (One Ack) f = moved (taken_on Ack h)
-  filed (One Fin) f = moved (taken_on Fin h)
-  filed (One Data) f = moved (taken_on Data h)
-  filed Wrong f = sym (session_at h.sid e.slots) ∙ same.session ∙ session_at h.sid e'.slots
+  filed (Some Syn) f = written e.slots e'.slots _ _ (both_new e.slots e'.slots f) refl
+  filed (Some Ack) f = moved (taken_on Ack h)
+  filed (Some Fin) f = moved (taken_on Fin h)
+  filed (Some Data) f = moved (taken_on Data h)
+  filed None f = sym (session_at h.sid e.slots) ∙ same.session ∙ session_at h.sid e'.slots
 
-pub take_alike : {e e' : End} {bytes lent exit exit' : List ℕ} {r r' : Taken} → Alike (read_header bytes).sid e e' → TakePromise e bytes lent r exit
+pub take_alike : {e e' : End} {bytes lent exit exit' : List ℕ} {r r' : TakeAnswer} → Alike (read_header bytes).sid e e' → TakePromise e bytes lent r exit
     → TakePromise e' bytes lent r' exit'
     → e.role ≡ e'.role → full e.slots ≡ full e'.slots → length e.slots ≡ length e'.slots
     → slot_of (read_header bytes).sid e.slots ≡ slot_of (read_header bytes).sid e'.slots
@@ -333,11 +333,11 @@ take_alike {e} {e'} {bytes} {lent} {exit} {exit'} {r} {r'} same p p' ρ f long s
     same.session in (
       ap values p.answer ∙ shown n bytes e e' ∙ ap (λ k. values (take_answer k bytes e')) q ∙ sym (ap values p'.answer),
       p.storage ∙ equal n n' _ _ lent lent refl refl q (stored g e e' h bytes lent same.session slot) refl ∙ sym p'.storage,
-      ap (λ (r : Taken). r.end.role) p.answer ∙ role_kept n bytes e ∙ ρ ∙ sym (ap (λ (r : Taken). r.end.role) p'.answer ∙ role_kept n' bytes e'),
-      ap (λ (r : Taken). r.end.up) p.answer ∙ up_after_lem n bytes e ∙ ap (λ k. up_after k e.up) q ∙ ap (up_after n') same.up
-          ∙ sym (ap (λ (r : Taken). r.end.up) p'.answer ∙ up_after_lem n' bytes e'),
-      (λ z. let m : n ≡ 0 = sym (ap (λ (r : Taken). r.number) p.answer ∙ take_told n bytes e) ∙ z in
-          ap (λ (r : Taken). get_or r.end.slots (filed_in g h e) free) (p.answer ∙ done_0 n _ _ m)
+      ap (λ (r : TakeAnswer). r.end.role) p.answer ∙ role_kept n bytes e ∙ ρ ∙ sym (ap (λ (r : TakeAnswer). r.end.role) p'.answer ∙ role_kept n' bytes e'),
+      ap (λ (r : TakeAnswer). r.end.up) p.answer ∙ up_after_lem n bytes e ∙ ap (λ k. up_after k e.up) q ∙ ap (up_after n') same.up
+          ∙ sym (ap (λ (r : TakeAnswer). r.end.up) p'.answer ∙ up_after_lem n' bytes e'),
+      (λ z. let m : n ≡ 0 = sym (ap (λ (r : TakeAnswer). r.number) p.answer ∙ take_told n bytes e) ∙ z in
+          ap (λ (r : TakeAnswer). get_or r.end.slots (filed_in g h e) free) (p.answer ∙ done_0 n _ _ m)
           ∙ filed h same g f
-          ∙ sym (ap (λ (r : Taken). get_or r.end.slots (filed_in g h e') free) (p'.answer ∙ done_0 n' _ _ (sym q ∙ m)))),
+          ∙ sym (ap (λ (r : TakeAnswer). get_or r.end.slots (filed_in g h e') free) (p'.answer ∙ done_0 n' _ _ (sym q ∙ m)))),
     )

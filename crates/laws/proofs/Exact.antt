@@ -1,5 +1,6 @@
 -- Each number exactly in its case: for each call, with the call's own promise as the hypothesis, the number that comes back is that of the
 -- first case of laws/specs/Whens.antt that applies, and 0 exactly where none does.
+use Rattle.std.specs.Prelude.{None, Option, Some}
 use Prim.Native.Nat.{ℕ, ◌+◌, ◌≤◌, ◌<◌}
 use native.Mathlib.Omega.{arith}
 use mathlib.Core.Path.{◌≡◌, refl, sym, ap, ◌∙◌}
@@ -14,8 +15,6 @@ use Rattle.cases.proofs.Tests.{never, and_split, and_both, or_split}
 use Rattle.wire.specs.declared.header.Header.{Header}
 use Rattle.wire.specs.declared.kind.Kind.{Kind}
 use Rattle.wire.specs.declared.kind.Kind.TheVariants.{Syn, Ack, Fin, Data}
-use Rattle.wire.specs.declared.kind.Flags.{Flags}
-use Rattle.wire.specs.declared.kind.Flags.TheVariants.{One, Wrong}
 use Rattle.wire.specs.Packet.{header_length, smid_value, flags_value, flags_of, is_kind, read_header}
 use Rattle.wire.proofs.Flags.{flags_named, value_of_flags}
 use Rattle.session.specs.declared.record.State.{State}
@@ -30,12 +29,12 @@ use Rattle.table.specs.declared.end.End.{End}
 use Rattle.table.specs.Slots.{holds, session_of, full}
 use Rattle.table.specs.Well.{WellMade, well_made}
 use Rattle.table.proofs.Made.{made, tested}
-use Rattle.open.specs.declared.Opened.{Opened}
-use Rattle.send.specs.declared.Sent.{Sent}
-use Rattle.read.specs.declared.Got.{Got}
-use Rattle.close.specs.declared.Closed.{Closed as ClosedAnswer}
-use Rattle.shutdown.specs.declared.Stopped.{Stopped}
-use Rattle.take.specs.declared.Taken.{Taken}
+use Rattle.open.specs.Open.{OpenAnswer}
+use Rattle.send.specs.Send.{SendAnswer}
+use Rattle.read.specs.Read.{ReadAnswer}
+use Rattle.close.specs.Close.{CloseAnswer as ClosedAnswer}
+use Rattle.shutdown.specs.Shutdown.{ShutdownAnswer}
+use Rattle.take.specs.Take.{TakeAnswer}
 use Rattle.table.specs.Limits.{base}
 use Rattle.calling.specs.Calling.{short_storage, calling}
 use Rattle.open.specs.Open.{is_server, open_cases, open_number, open_of, OpenPromise}
@@ -126,9 +125,9 @@ open_match e room =
     (goes refl (some 3 refl) (told_is (fully e))
     (goes refl (some 9 refl) (below room header_length) ends))))
 
-pub open_exact : {e : End} {lent exit : List ℕ} {r : Opened} → OpenPromise e lent r exit → Exactly r.number (open_whens e (length lent))
+pub open_exact : {e : End} {lent exit : List ℕ} {r : OpenAnswer} → OpenPromise e lent r exit → Exactly r.number (open_whens e (length lent))
 unfolding open_of open_number
-open_exact {e} {lent} p = exactly (open_match e (length lent)) (ap (λ (r : Opened). r.number) p.answer ∙ told (λ (r : Opened). r.number) _ _ _ refl refl)
+open_exact {e} {lent} p = exactly (open_match e (length lent)) (ap (λ (r : OpenAnswer). r.number) p.answer ∙ told (λ (r : OpenAnswer). r.number) _ _ _ refl refl)
 
 send_match : (e : End) (sid n room : ℕ) → Match (calling base e sid ++ send_cases base (session_of sid e.slots) n room) (send_whens e sid n room)
 send_match e sid n room =
@@ -139,11 +138,11 @@ send_match e sid n room =
     (goes refl (some 7 refl) (equal x.s x.h)
     (goes refl (some 9 refl) (below room (header_length + n)) ends))))
 
-pub send_exact : {e : End} {sid : ℕ} {payload lent exit : List ℕ} {r : Sent} → SendPromise e sid payload lent r exit
+pub send_exact : {e : End} {sid : ℕ} {payload lent exit : List ℕ} {r : SendAnswer} → SendPromise e sid payload lent r exit
     → Exactly r.number (send_whens e sid (length payload) (length lent))
 unfolding send_of send_number
 send_exact {e} {sid} {payload} {lent} p =
-    exactly (send_match e sid (length payload) (length lent)) (ap (λ (r : Sent). r.number) p.answer ∙ told (λ (r : Sent). r.number) _ _ _ refl refl)
+    exactly (send_match e sid (length payload) (length lent)) (ap (λ (r : SendAnswer). r.number) p.answer ∙ told (λ (r : SendAnswer). r.number) _ _ _ refl refl)
 
 -- 9 in read: one of three buffers is too short
 short_read : {n : ℕ} (e : End) (x : Session) (room ack storage : ℕ)
@@ -183,12 +182,12 @@ read_match e sid room ack storage =
     (goes refl (some 11 refl) (state_and fin_received FinReceived refl in_fin_received x.state (unread x))
     (goes refl (some 9 refl) (short_read e x room ack storage) ends))))
 
-pub read_exact : {e : End} {sid : ℕ} {storage lent lentAck exit exitAck : List ℕ} {r : Got} → ReadPromise e sid storage lent lentAck r exit exitAck
+pub read_exact : {e : End} {sid : ℕ} {storage lent lentAck exit exitAck : List ℕ} {r : ReadAnswer} → ReadPromise e sid storage lent lentAck r exit exitAck
     → Exactly r.number (read_whens e sid (length lent) (length lentAck) (length storage))
 unfolding read_of read_number
 read_exact {e} {sid} {storage} {lent} {lentAck} p =
     exactly (read_match e sid (length lent) (length lentAck) (length storage))
-    (ap (λ (r : Got). r.number) p.answer ∙ told (λ (r : Got). r.number) _ _ _ refl refl)
+    (ap (λ (r : ReadAnswer). r.number) p.answer ∙ told (λ (r : ReadAnswer). r.number) _ _ _ refl refl)
 
 close_match : (e : End) (sid room : ℕ) → Match (calling base e sid ++ close_cases (session_of sid e.slots) room) (close_whens e sid room)
 close_match e sid room =
@@ -205,9 +204,9 @@ close_exact {e} {sid} {lent} p =
 shutdown_match : (e : End) → Match (shutdown_cases (well_made base e) e.up) (shutdown_whens e)
 shutdown_match e = goes refl (some 12 refl) (well e) (goes refl (some 1 refl) (plainly e.up) ends)
 
-pub shutdown_exact : {e : End} {r : Stopped} → ShutdownPromise e r → Exactly r.number (shutdown_whens e)
+pub shutdown_exact : {e : End} {r : ShutdownAnswer} → ShutdownPromise e r → Exactly r.number (shutdown_whens e)
 unfolding shutdown_of shutdown_number
-shutdown_exact {e} p = exactly (shutdown_match e) (ap (λ (r : Stopped). r.number) p.answer ∙ told (λ (r : Stopped). r.number) _ _ _ refl refl)
+shutdown_exact {e} p = exactly (shutdown_match e) (ap (λ (r : ShutdownAnswer). r.number) p.answer ∙ told (λ (r : ShutdownAnswer). r.number) _ _ _ refl refl)
 
 -- ---- take
 
@@ -232,20 +231,20 @@ other_match k e h x =
     (goes refl (some 28 refl) (told_not (windowed x h.wndw))
     (goes refl (some 29 refl) (told_not (sequenced x k h.seqnum)) ends)))
 
-kind_match : (f : Flags) (e : End) (h : Header)
+kind_match : (f : Option Kind) (e : End) (h : Header)
     → Match (kind_cases base f e.role (holds h.sid e.slots) (full e.slots) (session_of h.sid e.slots) h) (kind_whens f e h)
-kind_match (One Syn) e h = syn_match e h
-kind_match (One Ack) e h = other_match Ack e h (session_of h.sid e.slots)
-kind_match (One Fin) e h = other_match Fin e h (session_of h.sid e.slots)
-kind_match (One Data) e h = other_match Data e h (session_of h.sid e.slots)
-kind_match Wrong e h = ends
+kind_match (Some Syn) e h = syn_match e h
+kind_match (Some Ack) e h = other_match Ack e h (session_of h.sid e.slots)
+kind_match (Some Fin) e h = other_match Fin e h (session_of h.sid e.slots)
+kind_match (Some Data) e h = other_match Data e h (session_of h.sid e.slots)
+kind_match None e h = ends
 
 named : {n : ℕ} (f : ℕ) → Is (not (is_kind (flags_of f))) (when n ((k : Kind) → f ≡ flags_value k → ⊥) ((k : Kind) × (f ≡ flags_value k)))
 named f = by (flags_of f) refl
   where
-    by : {n : ℕ} (g : Flags) → flags_of f ≡ g → Is (not (is_kind g)) (when n ((k : Kind) → f ≡ flags_value k → ⊥) ((k : Kind) × (f ≡ flags_value k)))
-    by (One k) e = is false (λ p. never p) (λ _. (k, value_of_flags f k e)) (λ none s. none s.0 s.1)
-    by Wrong e = is true (λ _ k p. let q : flags_of f ≡ One k = flags_named f k p in let z : ◌≡◌ {A = ℕ} 0 1 = cc in omega arith) (λ p. never (sym p))
+    by : {n : ℕ} (g : Option Kind) → flags_of f ≡ g → Is (not (is_kind g)) (when n ((k : Kind) → f ≡ flags_value k → ⊥) ((k : Kind) × (f ≡ flags_value k)))
+    by (Some k) e = is false (λ p. never p) (λ _. (k, value_of_flags f k e)) (λ none s. none s.0 s.1)
+    by None e = is true (λ _ k p. let q : flags_of f ≡ Some k = flags_named f k p in let z : ◌≡◌ {A = ℕ} 0 1 = cc in omega arith) (λ p. never (sym p))
         (λ none s. none s.0 s.1)
 
 packet_match : (e : End) (h : Header) (given : ℕ)
@@ -267,7 +266,7 @@ take_match e bytes storage =
     (goes refl (some 9 refl) (below storage _)
     (goes refl (some 10 refl) (below (length bytes) header_length) (packet_match e (read_header bytes) (length bytes)))))
 
-pub take_exact : {e : End} {bytes lent exit : List ℕ} {r : Taken} → TakePromise e bytes lent r exit → Exactly r.number (take_whens e bytes (length lent))
+pub take_exact : {e : End} {bytes lent exit : List ℕ} {r : TakeAnswer} → TakePromise e bytes lent r exit → Exactly r.number (take_whens e bytes (length lent))
 unfolding take_of take_number
 take_exact {e} {bytes} {lent} p =
-    exactly (take_match e bytes (length lent)) (ap (λ (r : Taken). r.number) p.answer ∙ take_told _ bytes e)
+    exactly (take_match e bytes (length lent)) (ap (λ (r : TakeAnswer). r.number) p.answer ∙ take_told _ bytes e)

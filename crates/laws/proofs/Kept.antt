@@ -2,6 +2,7 @@
 -- a fault, and start makes one. As 12 comes only for a record that isn't well made, a caller who lends each call the record that the
 -- call before returned never sees 12. Theorems know no types, so that every field is a value of its type is a hypothesis, which every
 -- record in the code meets and every call keeps. Nothing is said here of a record that the caller changed, or of the storage.
+use Rattle.std.specs.Prelude.{None, Option, Some}
 use Prim.Native.Nat.{ℕ, ◌-◌, ◌≤◌}
 use native.Mathlib.Omega.{arith}
 use mathlib.Core.Path.{◌≡◌, refl, sym}
@@ -16,8 +17,6 @@ use Rattle.cases.proofs.First.{numbered, test, clear}
 use Rattle.wire.specs.declared.header.Header.{Header}
 use Rattle.wire.specs.declared.kind.Kind.{Kind}
 use Rattle.wire.specs.declared.kind.Kind.TheVariants.{Syn, Ack, Fin, Data}
-use Rattle.wire.specs.declared.kind.Flags.{Flags}
-use Rattle.wire.specs.declared.kind.Flags.TheVariants.{One, Wrong}
 use Rattle.wire.specs.Packet as packet
 use Rattle.wire.specs.Packet.{AreBytes, header_length, read_header, flags_of, length_fits, SoundHeader, header_cases}
 use Rattle.wire.proofs.Headers.{read_fits}
@@ -40,19 +39,19 @@ use Rattle.table.proofs.Smallest.{smallest_new, smallest_within}
 use Rattle.table.proofs.Kept.{Sound, start_sound, down_sound, changed_sound, begun_sound, found_used, found_order, found_fits}
 use Rattle.table.specs.Limits.{Limits, base}
 use Rattle.calling.specs.Calling.{calling, short_storage}
-use Rattle.start.specs.declared.Started.{Started}
+use Rattle.start.specs.Start.{StartAnswer}
 use Rattle.start.specs.Start.{StartPromise}
-use Rattle.open.specs.declared.Opened.{Opened}
+use Rattle.open.specs.Open.{OpenAnswer}
 use Rattle.open.specs.Open.{open_cases, open_number, open_of, OpenPromise}
-use Rattle.send.specs.declared.Sent.{Sent}
+use Rattle.send.specs.Send.{SendAnswer}
 use Rattle.send.specs.Send.{send_cases, send_number, send_of, SendPromise}
-use Rattle.read.specs.declared.Got.{Got}
+use Rattle.read.specs.Read.{ReadAnswer}
 use Rattle.read.specs.Read.{read_cases, read_number, read_of, ReadPromise}
-use Rattle.close.specs.declared.Closed.{Closed}
+use Rattle.close.specs.Close.{CloseAnswer}
 use Rattle.close.specs.Close.{close_cases, close_number, close_of, ClosePromise}
-use Rattle.shutdown.specs.declared.Stopped.{Stopped}
+use Rattle.shutdown.specs.Shutdown.{ShutdownAnswer}
 use Rattle.shutdown.specs.Shutdown.{shutdown_number, shutdown_of, ShutdownPromise}
-use Rattle.take.specs.declared.Taken.{Taken}
+use Rattle.take.specs.Take.{TakeAnswer}
 use Rattle.judge.specs.Number.{take_cases, syn_cases, other_cases, kind_cases, take_number, missing}
 use Rattle.take.specs.Take.{take_refused, take_fault, taken_on, taken_end, take_of, TakePromise}
 
@@ -80,7 +79,7 @@ some_unread x u p q r = eqb-false _ _ (by x.state (eqb (unread x) 0) u p q r)
 module _ (lim : Limits) {e : End} (s : Sound lim e) where
   open_held : window ≤ lim.window → (room : ℕ) → Sound lim (open_of lim e room).end
   unfolding open_of open_number numbered test
-  open_held low room = either (λ (r : Opened). Sound lim r.end) (open_number lim e room) _ _ go s
+  open_held low room = either (λ (r : OpenAnswer). Sound lim r.end) (open_number lim e room) _ _ go s
     where
       cases : List Case
       cases = open_cases (well_made lim e) e.up e.role (full e.slots) room
@@ -102,7 +101,7 @@ module _ (lim : Limits) {e : End} (s : Sound lim e) where
 
     send_held : (payload : List ℕ) (room : ℕ) → Sound lim (send_of lim e sid payload room).end
     unfolding send_of send_number numbered test
-    send_held payload room = either (λ (r : Sent). Sound lim r.end) (send_number lim e sid (length payload) room) _ _ go s
+    send_held payload room = either (λ (r : SendAnswer). Sound lim r.end) (send_number lim e sid (length payload) room) _ _ go s
       where
         cases : List Case
         cases = calling lim e sid ++ send_cases lim x (length payload) room
@@ -112,7 +111,7 @@ module _ (lim : Limits) {e : End} (s : Sound lim e) where
 
     read_held : (room ack storage : ℕ) → Sound lim (read_of lim e sid room ack storage).end
     unfolding read_of read_number numbered test
-    read_held room ack storage = either (λ (r : Got). Sound lim r.end) (read_number lim e sid room ack storage) _ _ go s
+    read_held room ack storage = either (λ (r : ReadAnswer). Sound lim r.end) (read_number lim e sid room ack storage) _ _ go s
       where
         cases : List Case
         cases = calling lim e sid ++ read_cases x room ack (short_storage lim e storage)
@@ -124,7 +123,7 @@ module _ (lim : Limits) {e : End} (s : Sound lim e) where
 
     close_held : (room : ℕ) → Sound lim (close_of lim e sid room).end
     unfolding close_of close_number numbered test
-    close_held room = either (λ (r : Closed). Sound lim r.end) (close_number lim e sid room) _ _ go s
+    close_held room = either (λ (r : CloseAnswer). Sound lim r.end) (close_number lim e sid room) _ _ go s
       where
         cases : List Case
         cases = calling lim e sid ++ close_cases x room
@@ -134,7 +133,7 @@ module _ (lim : Limits) {e : End} (s : Sound lim e) where
 
   shutdown_held : Sound lim (shutdown_of lim e).end
   unfolding shutdown_of
-  shutdown_held = either (λ (r : Stopped). Sound lim r.end) (shutdown_number lim e) _ _ (λ _. down_sound s) s
+  shutdown_held = either (λ (r : ShutdownAnswer). Sound lim r.end) (shutdown_number lim e) _ _ (λ _. down_sound s) s
 
   -- ---- take: of any header whose fields fit where the bytes for it are there
 
@@ -170,7 +169,7 @@ module _ (lim : Limits) {e : End} (s : Sound lim e) where
         high = granted_most lim.window h.wndw (and_split (eqb h.seqnum 0) _ (not-false _ (clear (cases rest) 27 refl p))).1
 
     -- any other packet makes of its session what the table says
-    other_held : (k : Kind) → flags_of h.flags ≡ One k → first (cases (other_cases lim k known found h)) ≡ 0
+    other_held : (k : Kind) → flags_of h.flags ≡ Some k → first (cases (other_cases lim k known found h)) ≡ 0
         → Sound lim (table.changed_of h.sid (taken_on k h) e)
     unfolding numbered test
     other_held k q p =
@@ -191,18 +190,18 @@ module _ (lim : Limits) {e : End} (s : Sound lim e) where
         sound : SoundHeader lim.place h k
         sound = shapes.made lim.place h k (eqb-true _ _ (not-false _ (clear (cases rest) 20 refl p))) q (rw q at whole)
 
-    taken_held : (f : Flags) → flags_of h.flags ≡ f
+    taken_held : (f : Option Kind) → flags_of h.flags ≡ f
         → first (cases (kind_cases lim f e.role known (full e.slots) found h)) ≡ 0 → Sound lim (taken_end f h e)
-    taken_held (One Syn) q p = syn_held p
-    taken_held (One Ack) q p = other_held Ack q p
-    taken_held (One Fin) q p = other_held Fin q p
-    taken_held (One Data) q p = other_held Data q p
-    taken_held Wrong q p = s
+    taken_held (Some Syn) q p = syn_held p
+    taken_held (Some Ack) q p = other_held Ack q p
+    taken_held (Some Fin) q p = other_held Fin q p
+    taken_held (Some Data) q p = other_held Data q p
+    taken_held None q p = s
 
   -- a refusal returns the record as lent, a fault the end down
   take_held : (bytes : List ℕ) → AreBytes bytes → (storage : ℕ) → Sound lim (take_of lim e bytes storage).end
   unfolding take_of take_number
-  take_held bytes all storage = either (λ (r : Taken). Sound lim r.end) n _ _ go (by (ltb n 20))
+  take_held bytes all storage = either (λ (r : TakeAnswer). Sound lim r.end) n _ _ go (by (ltb n 20))
     where
       h : Header
       h = read_header bytes
@@ -225,35 +224,35 @@ fresh_made role = (start_sound base role).well
 pub fresh_fits : (role : Role) → Fits (table.start_of role)
 fresh_fits role = (start_sound base role).fits
 
-pub start_kept : {role : Role} {r : Started} → StartPromise role r → (well_made base r.end ≡ true) × Fits r.end
+pub start_kept : {role : Role} {r : StartAnswer} → StartPromise role r → (well_made base r.end ≡ true) × Fits r.end
 start_kept {role} p = rw p.answer (fresh_made role, fresh_fits role)
 
 -- from the law over the limits to the pair that a caller has and gets
 kept : {e e' : End} → (Sound base e → Sound base e') → well_made base e ≡ true → Fits e → (well_made base e' ≡ true) × Fits e'
 kept f w t = let s = f (record { well = w; fits = t }) in (s.well, s.fits)
 
-pub open_kept : {e : End} {lent exit : List ℕ} {r : Opened} → OpenPromise e lent r exit
+pub open_kept : {e : End} {lent exit : List ℕ} {r : OpenAnswer} → OpenPromise e lent r exit
     → well_made base e ≡ true → Fits e → (well_made base r.end ≡ true) × Fits r.end
 open_kept {lent = lent} p = rw p.answer (kept (λ s. open_held base s (omega arith) (length lent)))
 
-pub send_kept : {e : End} {sid : ℕ} {payload lent exit : List ℕ} {r : Sent} → SendPromise e sid payload lent r exit
+pub send_kept : {e : End} {sid : ℕ} {payload lent exit : List ℕ} {r : SendAnswer} → SendPromise e sid payload lent r exit
     → well_made base e ≡ true → Fits e → (well_made base r.end ≡ true) × Fits r.end
 send_kept {sid = sid} {payload} {lent} p = rw p.answer (kept (λ s. send_held base s sid payload (length lent)))
 
-pub read_kept : {e : End} {sid : ℕ} {storage lent lentAck exit exitAck : List ℕ} {r : Got} → ReadPromise e sid storage lent lentAck r exit exitAck
+pub read_kept : {e : End} {sid : ℕ} {storage lent lentAck exit exitAck : List ℕ} {r : ReadAnswer} → ReadPromise e sid storage lent lentAck r exit exitAck
     → well_made base e ≡ true → Fits e → (well_made base r.end ≡ true) × Fits r.end
 read_kept {sid = sid} {storage} {lent} {lentAck} p =
     rw p.answer (kept (λ s. read_held base s sid (length lent) (length lentAck) (length storage)))
 
-pub close_kept : {e : End} {sid : ℕ} {lent exit : List ℕ} {r : Closed} → ClosePromise e sid lent r exit
+pub close_kept : {e : End} {sid : ℕ} {lent exit : List ℕ} {r : CloseAnswer} → ClosePromise e sid lent r exit
     → well_made base e ≡ true → Fits e → (well_made base r.end ≡ true) × Fits r.end
 close_kept {sid = sid} {lent} p = rw p.answer (kept (λ s. close_held base s sid (length lent)))
 
-pub shutdown_kept : {e : End} {r : Stopped} → ShutdownPromise e r
+pub shutdown_kept : {e : End} {r : ShutdownAnswer} → ShutdownPromise e r
     → well_made base e ≡ true → Fits e → (well_made base r.end ≡ true) × Fits r.end
 shutdown_kept p = rw p.answer (kept (λ s. shutdown_held base s))
 
 -- the bytes given are bytes, so the header's fields fit
-pub take_kept : {e : End} {bytes lent exit : List ℕ} {r : Taken} → TakePromise e bytes lent r exit → AreBytes bytes
+pub take_kept : {e : End} {bytes lent exit : List ℕ} {r : TakeAnswer} → TakePromise e bytes lent r exit → AreBytes bytes
     → well_made base e ≡ true → Fits e → (well_made base r.end ≡ true) × Fits r.end
 take_kept {bytes = bytes} {lent} p all = rw p.answer (kept (λ s. take_held base s bytes all (length lent)))

@@ -5,13 +5,13 @@ use mathlib.Core.Path.{◌≡◌, sym, ◌∙◌}
 use mathlib.Core.List.{List}
 use Rattle.table.specs.declared.end.Role.{Role}
 use Rattle.table.specs.declared.end.End.{End}
-use Rattle.start.specs.declared.Started.{Started}
-use Rattle.open.specs.declared.Opened.{Opened}
-use Rattle.send.specs.declared.Sent.{Sent}
-use Rattle.read.specs.declared.Got.{Got}
-use Rattle.close.specs.declared.Closed.{Closed}
-use Rattle.shutdown.specs.declared.Stopped.{Stopped}
-use Rattle.take.specs.declared.Taken.{Taken}
+use Rattle.start.specs.Start.{StartAnswer}
+use Rattle.open.specs.Open.{OpenAnswer}
+use Rattle.send.specs.Send.{SendAnswer}
+use Rattle.read.specs.Read.{ReadAnswer}
+use Rattle.close.specs.Close.{CloseAnswer}
+use Rattle.shutdown.specs.Shutdown.{ShutdownAnswer}
+use Rattle.take.specs.Take.{TakeAnswer}
 use Rattle.start.specs.Start.{StartPromise}
 use Rattle.open.specs.Open.{OpenPromise}
 use Rattle.send.specs.Send.{SendPromise}
@@ -24,29 +24,29 @@ use Rattle.take.specs.Take.{TakePromise}
 pub one_result : {A : Type 0} {a b c : A} → a ≡ c → b ≡ c → a ≡ b
 one_result p q = p ∙ sym q
 
-pub start_one : {role : Role} {r r' : Started} → StartPromise role r → StartPromise role r' → r ≡ r'
+pub start_one : {role : Role} {r r' : StartAnswer} → StartPromise role r → StartPromise role r' → r ≡ r'
 start_one p q = one_result p.answer q.answer
 
-pub open_one : {e : End} {lent : List ℕ} {r r' : Opened} {exit exit' : List ℕ} → OpenPromise e lent r exit → OpenPromise e lent r' exit' → (r ≡ r')
+pub open_one : {e : End} {lent : List ℕ} {r r' : OpenAnswer} {exit exit' : List ℕ} → OpenPromise e lent r exit → OpenPromise e lent r' exit' → (r ≡ r')
     × (exit ≡ exit')
 open_one p q = (one_result p.answer q.answer, one_result p.packet q.packet)
 
-pub send_one : {e : End} {sid : ℕ} {payload lent : List ℕ} {r r' : Sent} {exit exit' : List ℕ}
+pub send_one : {e : End} {sid : ℕ} {payload lent : List ℕ} {r r' : SendAnswer} {exit exit' : List ℕ}
     → SendPromise e sid payload lent r exit → SendPromise e sid payload lent r' exit' → (r ≡ r') × (exit ≡ exit')
 send_one p q = (one_result p.answer q.answer, one_result p.packet q.packet)
 
-pub read_one_lem : {e : End} {sid : ℕ} {storage lent lentAck : List ℕ} {r r' : Got} {exit exitAck exit' exitAck' : List ℕ}
+pub read_one_lem : {e : End} {sid : ℕ} {storage lent lentAck : List ℕ} {r r' : ReadAnswer} {exit exitAck exit' exitAck' : List ℕ}
     → ReadPromise e sid storage lent lentAck r exit exitAck → ReadPromise e sid storage lent lentAck r' exit' exitAck'
     → (r ≡ r') × (exit ≡ exit') × (exitAck ≡ exitAck')
 read_one_lem p q = (one_result p.answer q.answer, one_result p.payload q.payload, one_result p.ack q.ack)
 
-pub close_one : {e : End} {sid : ℕ} {lent : List ℕ} {r r' : Closed} {exit exit' : List ℕ}
+pub close_one : {e : End} {sid : ℕ} {lent : List ℕ} {r r' : CloseAnswer} {exit exit' : List ℕ}
     → ClosePromise e sid lent r exit → ClosePromise e sid lent r' exit' → (r ≡ r') × (exit ≡ exit')
 close_one p q = (one_result p.answer q.answer, one_result p.packet q.packet)
 
-pub shutdown_one : {e : End} {r r' : Stopped} → ShutdownPromise e r → ShutdownPromise e r' → r ≡ r'
+pub shutdown_one : {e : End} {r r' : ShutdownAnswer} → ShutdownPromise e r → ShutdownPromise e r' → r ≡ r'
 shutdown_one p q = one_result p.answer q.answer
 
-pub take_one : {e : End} {bytes lent : List ℕ} {r r' : Taken} {exit exit' : List ℕ}
+pub take_one : {e : End} {bytes lent : List ℕ} {r r' : TakeAnswer} {exit exit' : List ℕ}
     → TakePromise e bytes lent r exit → TakePromise e bytes lent r' exit' → (r ≡ r') × (exit ≡ exit')
 take_one p q = (one_result p.answer q.answer, one_result p.storage q.storage)

@@ -1,4 +1,5 @@
 -- The tests of the crates below are their plain words, both ways.
+use Rattle.std.specs.Prelude.{None, Option, Some}
 use Prim.Native.Nat.{ℕ, ◌+◌, ◌≤◌}
 use native.Mathlib.Omega.{arith}
 use mathlib.Core.Path.{◌≡◌, refl, sym, ap, ◌∙◌}
@@ -9,8 +10,6 @@ use Rattle.cases.specs.Cases.{if}
 use Rattle.cases.proofs.Tests.{never, and_split, and_both, false_not}
 use Rattle.wire.specs.declared.kind.Kind.{Kind}
 use Rattle.wire.specs.declared.kind.Kind.TheVariants.{Syn, Ack, Fin, Data}
-use Rattle.wire.specs.declared.kind.Flags.{Flags}
-use Rattle.wire.specs.declared.kind.Flags.TheVariants.{One, Wrong}
 use Rattle.wire.specs.Packet.{header_length, flags_value, flags_of, length_fits}
 use Rattle.wire.proofs.Flags.{flags_named, value_of_flags}
 use Rattle.session.specs.declared.record.State.{State}
@@ -58,7 +57,7 @@ fully e = record { to = full_used e.slots; back = λ f. by f (full e.slots) refl
 
 -- ---- LENGTH, for the kind that FLAGS names
 
-right : (k : Kind) (n : ℕ) → Tells (length_fits payload_limit (One k) n) (LengthRight k n)
+right : (k : Kind) (n : ℕ) → Tells (length_fits payload_limit (Some k) n) (LengthRight k n)
 right Syn n = record { to = eqb-true n header_length; back = eq-eqb n header_length }
 right Ack n = record { to = eqb-true n header_length; back = eq-eqb n header_length }
 right Fin n = record { to = eqb-true n header_length; back = eq-eqb n header_length }
@@ -67,14 +66,14 @@ right Data n = both_at_most header_length n n (header_length + payload_limit)
 pub sized : (f n : ℕ) → Tells (length_fits payload_limit (flags_of f) n) ((k : Kind) × (f ≡ flags_value k) × LengthRight k n)
 sized f n = by (flags_of f) refl
   where
-    by : (g : Flags) → flags_of f ≡ g → Tells (length_fits payload_limit g n) ((k : Kind) × (f ≡ flags_value k) × LengthRight k n)
-    by (One k) e = record {
+    by : (g : Option Kind) → flags_of f ≡ g → Tells (length_fits payload_limit g n) ((k : Kind) × (f ≡ flags_value k) × LengthRight k n)
+    by (Some k) e = record {
       to = λ p. (k, value_of_flags f k e, (right k n).to p);
-      back = λ s. let q : flags_of f ≡ One s.0 = flags_named f s.0 s.1 in let same : s.0 ≡ k = cc in (right k n).back (rw same at s.2);
+      back = λ s. let q : flags_of f ≡ Some s.0 = flags_named f s.0 s.1 in let same : s.0 ≡ k = cc in (right k n).back (rw same at s.2);
     }
-    by Wrong e = record {
+    by None e = record {
       to = λ p. never p;
-      back = λ s. let q : flags_of f ≡ One s.0 = flags_named f s.0 s.1 in let z : ◌≡◌ {A = ℕ} 0 1 = cc in absurd (omega arith);
+      back = λ s. let q : flags_of f ≡ Some s.0 = flags_named f s.0 s.1 in let z : ◌≡◌ {A = ℕ} 0 1 = cc in absurd (omega arith);
     }
 
 -- ---- the ranges

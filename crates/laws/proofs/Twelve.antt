@@ -1,5 +1,6 @@
 -- 12 comes only for a record that isn't well made. With laws/proofs/Kept.antt: a caller who lends each call the record that the call before
 -- returned never sees 12.
+use Rattle.std.specs.Prelude.{None, Option, Some}
 use Prim.Native.Nat.{ℕ}
 use mathlib.Core.Path.{◌≡◌, refl}
 use mathlib.Core.Bool.{Bool, true, not, ◌&&◌}
@@ -9,18 +10,17 @@ use lib.Dec.{eqb}
 use borrow.Author.Tests.{eqb-false, not-true}
 use Rattle.cases.proofs.Tests.{and_split}
 use Rattle.wire.specs.declared.header.Header.{Header}
+use Rattle.wire.specs.declared.kind.Kind.{Kind}
 use Rattle.wire.specs.declared.kind.Kind.TheVariants.{Syn, Ack, Fin, Data}
-use Rattle.wire.specs.declared.kind.Flags.{Flags}
-use Rattle.wire.specs.declared.kind.Flags.TheVariants.{One, Wrong}
 use Rattle.wire.specs.Packet.{flags_of, read_header}
 use Rattle.table.specs.declared.end.End.{End}
 use Rattle.table.proofs.Made.{made}
-use Rattle.open.specs.declared.Opened.{Opened}
-use Rattle.send.specs.declared.Sent.{Sent}
-use Rattle.read.specs.declared.Got.{Got}
-use Rattle.close.specs.declared.Closed.{Closed}
-use Rattle.shutdown.specs.declared.Stopped.{Stopped}
-use Rattle.take.specs.declared.Taken.{Taken}
+use Rattle.open.specs.Open.{OpenAnswer}
+use Rattle.send.specs.Send.{SendAnswer}
+use Rattle.read.specs.Read.{ReadAnswer}
+use Rattle.close.specs.Close.{CloseAnswer}
+use Rattle.shutdown.specs.Shutdown.{ShutdownAnswer}
+use Rattle.take.specs.Take.{TakeAnswer}
 use Rattle.table.specs.Limits.{base}
 use Rattle.table.specs.Well.{well_made}
 use Rattle.open.specs.Open.{OpenPromise}
@@ -52,28 +52,28 @@ only_12 {n} {e} {ws} x a g p = by (x.only 12 p (λ q. omega arith))
     by (here f) = f (made base e g)
     by (later q r) = not_among (among r) a
 
-kinds : (f : Flags) (e : End) (h : Header) → absent 12 (numbers (kind_whens f e h)) ≡ true
-kinds (One Syn) e h = refl
-kinds (One Ack) e h = refl
-kinds (One Fin) e h = refl
-kinds (One Data) e h = refl
-kinds Wrong e h = refl
+kinds : (f : Option Kind) (e : End) (h : Header) → absent 12 (numbers (kind_whens f e h)) ≡ true
+kinds (Some Syn) e h = refl
+kinds (Some Ack) e h = refl
+kinds (Some Fin) e h = refl
+kinds (Some Data) e h = refl
+kinds None e h = refl
 
-pub open_12 : {e : End} {lent exit : List ℕ} {r : Opened} → OpenPromise e lent r exit → well_made base e ≡ true → r.number ≡ 12 → ⊥
+pub open_12 : {e : End} {lent exit : List ℕ} {r : OpenAnswer} → OpenPromise e lent r exit → well_made base e ≡ true → r.number ≡ 12 → ⊥
 open_12 p = only_12 (open_exact p) refl
 
-pub send_12 : {e : End} {sid : ℕ} {payload lent exit : List ℕ} {r : Sent} → SendPromise e sid payload lent r exit → well_made base e ≡ true → r.number ≡ 12 → ⊥
+pub send_12 : {e : End} {sid : ℕ} {payload lent exit : List ℕ} {r : SendAnswer} → SendPromise e sid payload lent r exit → well_made base e ≡ true → r.number ≡ 12 → ⊥
 send_12 p = only_12 (send_exact p) refl
 
-pub read_12 : {e : End} {sid : ℕ} {storage lent lentAck exit exitAck : List ℕ} {r : Got} → ReadPromise e sid storage lent lentAck r exit exitAck
+pub read_12 : {e : End} {sid : ℕ} {storage lent lentAck exit exitAck : List ℕ} {r : ReadAnswer} → ReadPromise e sid storage lent lentAck r exit exitAck
     → well_made base e ≡ true → r.number ≡ 12 → ⊥
 read_12 p = only_12 (read_exact p) refl
 
-pub close_12 : {e : End} {sid : ℕ} {lent exit : List ℕ} {r : Closed} → ClosePromise e sid lent r exit → well_made base e ≡ true → r.number ≡ 12 → ⊥
+pub close_12 : {e : End} {sid : ℕ} {lent exit : List ℕ} {r : CloseAnswer} → ClosePromise e sid lent r exit → well_made base e ≡ true → r.number ≡ 12 → ⊥
 close_12 p = only_12 (close_exact p) refl
 
-pub shutdown_12 : {e : End} {r : Stopped} → ShutdownPromise e r → well_made base e ≡ true → r.number ≡ 12 → ⊥
+pub shutdown_12 : {e : End} {r : ShutdownAnswer} → ShutdownPromise e r → well_made base e ≡ true → r.number ≡ 12 → ⊥
 shutdown_12 p = only_12 (shutdown_exact p) refl
 
-pub take_12 : {e : End} {bytes lent exit : List ℕ} {r : Taken} → TakePromise e bytes lent r exit → well_made base e ≡ true → r.number ≡ 12 → ⊥
+pub take_12 : {e : End} {bytes lent exit : List ℕ} {r : TakeAnswer} → TakePromise e bytes lent r exit → well_made base e ≡ true → r.number ≡ 12 → ⊥
 take_12 {e} {bytes} p = only_12 (take_exact p) (kinds (flags_of (read_header bytes).flags) e (read_header bytes))

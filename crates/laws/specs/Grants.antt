@@ -11,7 +11,7 @@ use Rattle.table.specs.End.{start_of}
 use Rattle.table.specs.Limits.{base}
 use Rattle.open.specs.Open.{open_of, open_packet}
 use Rattle.send.specs.Send.{send_of}
-use Rattle.take.specs.declared.Taken.{Taken}
+use Rattle.take.specs.Take.{TakeAnswer}
 use Rattle.take.specs.Take.{take_of}
 use Rattle.laws.specs.Bench.{with, header, gives, next, Row, ◌is◌}
 
@@ -27,7 +27,7 @@ abbrev pub sent : Session → ℕ
 sent x = (send_of base (with x) 5 [] 16).number
 
 -- a SYN with this SEQNUM and this WNDW at a fresh server, and the session that it makes
-abbrev pub syn : ℕ → ℕ → Taken
+abbrev pub syn : ℕ → ℕ → TakeAnswer
 syn seqnum wndw = take_of base (start_of Server) (header 0x01 16 seqnum wndw) 32768
 
 abbrev pub begun : ℕ → Session

@@ -1,10 +1,8 @@
 -- For each call, when each of its numbers is given, in document 01's words and order (its lists under "Numbers that come back").
-use Rattle.std.specs.Prelude.{ℕ, ◌+◌, ◌≤◌, ◌<◌, ◌≡◌, ◌⊎◌, true, false, List, [], ◌∷◌, length}
+use Rattle.std.specs.Prelude.{ℕ, ◌+◌, ◌≤◌, ◌<◌, ◌≡◌, ◌⊎◌, true, false, List, [], ◌∷◌, length, Option, Some, None}
 use Rattle.wire.specs.declared.header.Header.{Header}
 use Rattle.wire.specs.declared.kind.Kind.{Kind}
 use Rattle.wire.specs.declared.kind.Kind.TheVariants.{Syn, Ack, Fin, Data}
-use Rattle.wire.specs.declared.kind.Flags.{Flags}
-use Rattle.wire.specs.declared.kind.Flags.TheVariants.{One, Wrong}
 use Rattle.wire.specs.Packet.{header_length, smid_value, flags_value, flags_of, read_header}
 use Rattle.session.specs.declared.record.State.TheVariants.{Established, FinSent, FinReceived}
 use Rattle.session.specs.declared.record.Session.{Session}
@@ -105,12 +103,12 @@ other_whens k e h x =
     ∷ when 29 (InSequence x k h.seqnum → ⊥) (InSequence x k h.seqnum)
     ∷ []
 
-abbrev pub kind_whens : Flags → End → Header → List When
-kind_whens (One Syn) e h = syn_whens e h
-kind_whens (One Ack) e h = other_whens Ack e h (session_of h.sid e.slots)
-kind_whens (One Fin) e h = other_whens Fin e h (session_of h.sid e.slots)
-kind_whens (One Data) e h = other_whens Data e h (session_of h.sid e.slots)
-kind_whens Wrong e h = []
+abbrev pub kind_whens : Option Kind → End → Header → List When
+kind_whens (Some Syn) e h = syn_whens e h
+kind_whens (Some Ack) e h = other_whens Ack e h (session_of h.sid e.slots)
+kind_whens (Some Fin) e h = other_whens Fin e h (session_of h.sid e.slots)
+kind_whens (Some Data) e h = other_whens Data e h (session_of h.sid e.slots)
+kind_whens None e h = []
 
 -- 20, 21, 22; 10 if under LENGTH; then by kind
 abbrev pub packet_whens : End → Header → ℕ → List When

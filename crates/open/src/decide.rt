@@ -1,44 +1,31 @@
-// What open decides from a look at the table and small values: its number, and its SYN.
-ghost use Rattle.std.specs.Prelude.{◌≡◌};
-ghost use Rattle.cases.specs.Cases.{first};
-ghost use Rattle.open.specs.Open.{is_server, open_cases, syn_header};
+// What open decides from a look at the table and small values: whether it refuses, its slot, and its SYN.
+ghost use Rattle.std.specs.Prelude.{◌≡◌, true, Some, is_none, IfOk};
+ghost use Rattle.cases.specs.Cases.{first, number_in};
+ghost use Rattle.open.specs.Open.{open_cases, syn_header};
 
-use cases::number;
+use cases::refusal::Refusal;
 use session::record::Session;
 use table::end::Role;
 use wire::header::Header;
 use wire::kind::Kind;
 
-fn is_server(role: Role) -> bool
-    ensures { result ≡ is_server role }
-{
-    match role {
-        Role::Client => false,
-        Role::Server => true,
-    }
-}
-
-// Open's number: 12 not well made, 1 down, 2 at a server, 3 no free slot, 9 a room under 16; 0 if it is done.
+// The slot of a new session, or open's refusal in a well-made end: 1 down, 2 at a server, 3 no free slot, 9 a room under 16.
 #[tactic(auto, unfolding(cases::specs::Cases::first))]
-pub fn open_number(made: bool, up: bool, role: Role, none: bool, room: usize) -> u8
-    ensures { result ≡ first (open_cases made up role none room) }
+pub fn may_open(up: bool, role: Role, free: Option<usize>, room: usize) -> Result<usize, Refusal>
+    ensures number { number_in result ≡ first (open_cases true up role (is_none free) room) }
+    ensures slot { IfOk result (λ i. free ≡ Some i) }
 {
-    if !made {
-        return number::ILL_MADE;
-    }
     if !up {
-        return number::DOWN;
+        return Err(Refusal::Down);
     }
-    if is_server(role) {
-        return number::NOT_A_CLIENT;
+    if role == Role::Server {
+        return Err(Refusal::NotAClient);
     }
-    if none {
-        return number::NO_FREE_SLOT;
-    }
+    let slot = free.ok_or(Refusal::NoFreeSlot)?;
     if room < Header::LEN {
-        return number::TOO_SHORT;
+        return Err(Refusal::TooShort);
     }
-    number::DONE
+    Ok(slot)
 }
 
 // The header of the SYN of a new session: its SID, LENGTH 16, SEQNUM 0, WNDW 4.

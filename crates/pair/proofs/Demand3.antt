@@ -12,11 +12,11 @@ use Rattle.session.specs.declared.record.State.TheVariants.{Established, FinRece
 use Rattle.session.specs.Counter.{minus}
 use Rattle.session.specs.Record.{window, in_use, fin_sent, unread}
 use Rattle.session.specs.Notice.{due}
-use Rattle.open.specs.declared.Opened.{Opened}
-use Rattle.send.specs.declared.Sent.{Sent}
-use Rattle.read.specs.declared.Got.{Got}
-use Rattle.close.specs.declared.Closed.{Closed}
-use Rattle.take.specs.declared.Taken.{Taken}
+use Rattle.open.specs.Open.{OpenAnswer}
+use Rattle.send.specs.Send.{SendAnswer}
+use Rattle.read.specs.Read.{ReadAnswer}
+use Rattle.close.specs.Close.{CloseAnswer}
+use Rattle.take.specs.Take.{TakeAnswer}
 use Rattle.table.specs.Slots.{full}
 use Rattle.table.specs.Limits.{Limits, base}
 use Rattle.table.specs.Well.{well_made}
@@ -204,24 +204,24 @@ module _ (slots : ℕ) (lim : Limits) (storage : Side → List ℕ) (steps : Lis
 -- ---- in the buffer: what a step makes of a call is what its caller has in hand, by the call's own promise, whatever the buffers held before
 
 module _ (p : Party) where
-  pub open_seen_lem : {lent exit : List ℕ} {r : Opened} → OpenPromise p.end lent r exit → did base (Open (length lent)) p ≡ open_seen p r exit
+  pub open_seen_lem : {lent exit : List ℕ} {r : OpenAnswer} → OpenPromise p.end lent r exit → did base (Open (length lent)) p ≡ open_seen p r exit
   open_seen_lem q = let packet = open_front q in cc
 
-  pub send_seen_lem : {sid : ℕ} {payload lent exit : List ℕ} {r : Sent} → SendPromise p.end sid payload lent r exit
+  pub send_seen_lem : {sid : ℕ} {payload lent exit : List ℕ} {r : SendAnswer} → SendPromise p.end sid payload lent r exit
       → did base (Send sid payload (length lent)) p ≡ send_seen p r exit
   send_seen_lem q = let packet = send_front q in cc
 
-  pub read_seen_lem : {sid : ℕ} (n : ℕ) {lent lentAck exit exitAck : List ℕ} {r : Got} → ReadPromise p.end sid (take n p.storage) lent lentAck r exit exitAck
+  pub read_seen_lem : {sid : ℕ} (n : ℕ) {lent lentAck exit exitAck : List ℕ} {r : ReadAnswer} → ReadPromise p.end sid (take n p.storage) lent lentAck r exit exitAck
       → did base (Read sid (length lent) (length lentAck) n) p ≡ read_seen p r exit exitAck
   read_seen_lem n q =
       let payload = read_front q in
       let packet = ack_front q in
       cc
 
-  pub close_seen_lem : {sid : ℕ} {lent exit : List ℕ} {r : Closed} → ClosePromise p.end sid lent r exit
+  pub close_seen_lem : {sid : ℕ} {lent exit : List ℕ} {r : CloseAnswer} → ClosePromise p.end sid lent r exit
       → did base (Close sid (length lent)) p ≡ close_seen p r exit
   close_seen_lem q = let packet = close_front q in cc
 
-  pub take_seen_lem : (given n : ℕ) {exit : List ℕ} {r : Taken} → TakePromise p.end (take given p.coming) (take n p.storage) r exit
+  pub take_seen_lem : (given n : ℕ) {exit : List ℕ} {r : TakeAnswer} → TakePromise p.end (take given p.coming) (take n p.storage) r exit
       → did base (Take given n) p ≡ take_seen p n r exit
   take_seen_lem given n q = ap₂ (take_seen p n) (sym q.answer) (sym q.storage)

@@ -1,7 +1,8 @@
 -- Read: hands over the oldest unread payload; G grows by 1. In ESTABLISHED it emits ACK, SEQNUM S, WNDW the new G, where one is due
 -- (document 02, (i)). In FIN RECEIVED it emits nothing. Refusals 12, 1, 4, 5, 8 or 11, 9.
-use Rattle.std.specs.Prelude.{ℕ, ◌≡◌, Bool, ◌&&◌, ◌||◌, List, [], ◌∷◌, ◌++◌, length, take, drop, eqb, ltb}
-use Rattle.cases.specs.Cases.{Case, ◌⇒◌, if, first, done}
+use Rattle.std.specs.Prelude.{ℕ, ◌≡◌, Bool, ◌&&◌, ◌||◌, List, [], ◌∷◌, ◌++◌, length, take, drop, eqb, ltb, Result, Ok, Err}
+use Rattle.cases.specs.declared.refusal.Refusal.{Refusal}
+use Rattle.cases.specs.Cases.{Case, ◌⇒◌, if, first, done, refusal_number}
 use Rattle.wire.specs.declared.header.Header.{Header}
 use Rattle.wire.specs.declared.kind.Kind.TheVariants.{Ack}
 use Rattle.wire.specs.Packet.{header_length, header_bytes, header_of}
@@ -46,13 +47,20 @@ ack_on x = if (due x) (header_bytes (ack_header x)) []
 abbrev pub oldest_in : Limits → ℕ → Session → List ℕ → List ℕ
 oldest_in lim i x storage = take (oldest_length x) (drop (place_start lim.place i (oldest x)) storage)
 
-abbrev pub read_done : ℕ → ℕ → End → Got
+-- what comes back, by number and values
+pub record ReadAnswer : Type 0 where
+  pub number : ℕ
+  pub payload_length : ℕ
+  pub ack_length : ℕ
+  pub end : End
+
+abbrev pub read_done : ℕ → ℕ → End → ReadAnswer
 read_done payload ack e = record { number = 0; payload_length = payload; ack_length = ack; end = e }
 
-abbrev pub read_refused : ℕ → End → Got
+abbrev pub read_refused : ℕ → End → ReadAnswer
 read_refused n e = record { number = n; payload_length = 0; ack_length = 0; end = e }
 
-unfoldable pub read_of : Limits → End → ℕ → ℕ → ℕ → ℕ → Got
+unfoldable pub read_of : Limits → End → ℕ → ℕ → ℕ → ℕ → ReadAnswer
 read_of lim e sid room ack storage =
     done (read_number lim e sid room ack storage)
     (read_done (oldest_length (session_of sid e.slots)) (length (ack_on (session_of sid e.slots))) (changed_of sid read_on e))
@@ -69,7 +77,12 @@ unfoldable pub read_ack : Limits → End → ℕ → ℕ → ℕ → ℕ → Lis
 read_ack lim e sid room ack storage = done (read_number lim e sid room ack storage) (ack_on (session_of sid e.slots)) []
 
 -- for the payload buffer and the ACK buffer as they were lent, the answer, and both at exit
-pub record ReadPromise (e : End) (sid : ℕ) (storage lent lentAck : List ℕ) (r : Got) (exit exitAck : List ℕ) : Type 0 where
+pub record ReadPromise (e : End) (sid : ℕ) (storage lent lentAck : List ℕ) (r : ReadAnswer) (exit exitAck : List ℕ) : Type 0 where
   pub answer : r ≡ read_of base e sid (length lent) (length lentAck) (length storage)
   pub payload : exit ≡ onto (read_payload base e sid (length lent) (length lentAck) storage) lent
   pub ack : exitAck ≡ onto (read_ack base e sid (length lent) (length lentAck) (length storage)) lentAck
+
+-- an answer's number and values, beside the end after the call
+abbrev pub read_says : Result Got Refusal → End → ReadAnswer
+read_says (Ok g) e = read_done g.payload_length g.ack_length e
+read_says (Err r) e = read_refused (refusal_number r) e

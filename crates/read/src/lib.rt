@@ -1,19 +1,19 @@
 // Read: the oldest unread payload is handed over, and an ACK goes out where one is due.
 #![tactic(auto)]
 
-ghost use Rattle.std.specs.Prelude.{◌≡◌, false, ◌&&◌, ◌≤◌, ◌<◌, length, take, drop, ltb};
+ghost use Rattle.std.specs.Prelude.{◌≡◌, false, ◌&&◌, ◌≤◌, ◌<◌, length, take, drop, ltb, IfOk};
 ghost use Rattle.buffer.specs.Onto.{onto, Front};
 ghost use Rattle.wire.specs.Packet.{header_length};
 ghost use Rattle.session.specs.Record.{payload_limit};
 ghost use Rattle.session.specs.Notice.{due};
 ghost use Rattle.table.specs.End.{slot_count};
 ghost use Rattle.table.specs.Storage.{storage_length, place_start};
-ghost use Rattle.read.specs.Read.{ack_on, read_done, read_refused, ReadPromise};
+ghost use Rattle.read.specs.Read.{ack_on, read_says, ReadPromise};
 
 use buffer::copy_in;
-use cases::number;
-use decide::{ack_header, oldest_length, read_number};
-use scan::scan;
+use calling::find;
+use cases::refusal::Refusal;
+use decide::{ack_header, may_read, oldest_length};
 use session::record::Session;
 use table::end::End;
 use table::storage;
@@ -21,41 +21,13 @@ use wire::header::Header;
 
 pub mod decide;
 
-// What read answers. After a refusal both lengths are 0.
-#[derive(Clone, Copy)]
+// What a read gives that was done.
+#[derive(Clone, Copy, Debug, PartialEq, Eq)]
 pub struct Got {
-    // 0, or the number of the refusal: 12, 1, 4, 5, 8, 11, 9. 11 means that the writer has ended and all was read.
-    pub number: u8,
     // How many bytes at the front of `payload` were handed over; 0 for an empty payload too.
     pub payload_length: usize,
     // How many bytes at the front of `ack` are the ACK: 16 where one goes out, else 0.
     pub ack_length: usize,
-    // The end after the read; after a refusal the end as it was given.
-    pub end: End,
-}
-
-impl Got {
-    fn done(payload: usize, ack: usize, e: End) -> Got
-        ensures { result ≡ read_done payload ack e }
-    {
-        Got {
-            number: number::DONE,
-            payload_length: payload,
-            ack_length: ack,
-            end: e,
-        }
-    }
-
-    fn refused(n: u8, e: End) -> Got
-        ensures { result ≡ read_refused n e }
-    {
-        Got {
-            number: n,
-            payload_length: 0,
-            ack_length: 0,
-            end: e,
-        }
-    }
 }
 
 // The ACK, where one is due, and its length.
@@ -82,26 +54,27 @@ fn hand_over(payload: &mut [u8], storage: &[u8], slot: usize, seqnum: u32, n: us
 
 // Hands over the oldest unread payload of the session `sid`, from its place in the storage to the front of `payload`. G grows by 1. In ESTABLISHED,
 // where the new G is 2 or more past what the peer was last told, an ACK goes to the front of `ack`, for the transport. The storage, later bytes of
-// both buffers and every other slot stay. A refusal changes nothing.
-pub fn read(e: End, sid: u16, storage: &[u8], payload: &mut [u8], ack: &mut [u8]) -> Got
-    ensures read_promise { ReadPromise e sid storage.now payload.old ack.old result payload.new ack.new }
-    ensures front { Front result.payload_length payload.new × Front result.ack_length ack.new }
+// both buffers and every other slot stay. A refusal, 12, 1, 4, 5, 8, 11 or 9, changes nothing; 11 means that the writer has ended and all was read.
+pub fn read(
+    e: &mut End,
+    sid: u16,
+    storage: &[u8],
+    payload: &mut [u8],
+    ack: &mut [u8],
+) -> Result<Got, Refusal>
+    ensures read_promise { ReadPromise e.old sid storage.now payload.old ack.old (read_says result e.new) payload.new ack.new }
+    ensures front { IfOk result (λ g. Front g.payload_length payload.new × Front g.ack_length ack.new) }
 {
-    let l = scan(e, sid);
-    let n = read_number(
-        l,
-        e.up,
-        payload.len(),
-        ack.len(),
-        storage.len() < storage::LENGTH,
-    );
-    if n != number::DONE {
-        return Got::refused(n, e);
-    }
-    let x = l.session;
-    let y = x.read();
-    let len = oldest_length(x);
-    hand_over(payload, storage, l.slot, x.oldest(), len);
-    let a = write_ack(ack, x);
-    Got::done(len, a, e.put(l.slot, y))
+    let found = find(e, sid)?;
+    let x = found.session;
+    let short = storage::is_short(e, storage.len());
+    may_read(x, payload.len(), ack.len(), short)?;
+    let payload_length = oldest_length(x);
+    hand_over(payload, storage, found.slot, x.oldest(), payload_length);
+    let ack_length = write_ack(ack, x);
+    e.put(found.slot, x.read());
+    Ok(Got {
+        payload_length,
+        ack_length,
+    })
 }

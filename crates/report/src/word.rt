@@ -1,38 +1,30 @@
 // The words of a line.
-ghost use Rattle.std.specs.Prelude.{◌≡◌, ◌+◌, ◌≤◌, length};
-ghost use Rattle.buffer.specs.Wrote.{Wrote};
-ghost use Rattle.report.specs.Rows.{sid_digits, sid_text};
-ghost use Rattle.report.specs.Lines.{number_word, last_number, of_session, end_state};
+ghost use Rattle.std.specs.Prelude.{◌≡◌, ◌+◌, ◌≤◌, ◌∷◌, length};
+ghost use Rattle.text.specs.Writing.{Written};
+ghost use Rattle.report.specs.Rows.{space, sid_digits, sid_text, up_word};
+ghost use Rattle.report.specs.Lines.{number_word};
 
 use text::digit::glyph;
+use text::writer::Writer;
 use wire::header::Header;
 
-// Copies all of `word` into `out` from place `at` on, and answers the place behind it. No other byte changes.
-pub fn copy(out: &mut [u8], at: usize, word: &[u8]) -> usize
-    requires { at + length word.now ≤ length out.old }
-    ensures { Wrote out.old at word.now out.new result }
+// Writes a space and the word behind it.
+pub fn put(w: &mut Writer, word: &[u8])
+    requires { w.old.at + length word.now + 1 ≤ length w.old.out.now }
+    ensures { Written w.old (space ∷ word.now) w.new }
 {
-    buffer::copy_in(out, at, word);
-    at + word.len()
+    w.byte(b' ');
+    w.bytes(word);
 }
 
-// Writes a space and n in the fewest decimal digits from place `at` on, and answers the place behind them. No other byte changes.
-pub fn number(out: &mut [u8], at: usize, n: u32) -> usize
-    requires { at + 11 ≤ length out.old }
-    ensures { Wrote out.old at (number_word n) out.new result }
+// The same with n in the fewest decimal digits.
+#[tactic(auto, using(text::proofs::Writing::then))]
+pub fn number(w: &mut Writer, n: u32)
+    requires { w.old.at + 11 ≤ length w.old.out.now }
+    ensures { Written w.old (number_word n) w.new }
 {
-    out[at] = b' ';
-    text::decimal::put(out, at + 1, n)
-}
-
-// The same at a line's end: LF stands behind the number, and the answer is the place behind LF.
-pub fn last_number(out: &mut [u8], at: usize, n: u32) -> usize
-    requires { at + 12 ≤ length out.old }
-    ensures { Wrote out.old at (last_number n) out.new result }
-{
-    let k = number(out, at, n);
-    out[k] = text::line::LF;
-    k + 1
+    w.byte(b' ');
+    w.number(n);
 }
 
 // A SID in four digits, the high byte first.
@@ -62,24 +54,9 @@ pub fn sid(frame: &[u8]) -> [u8; 4]
     sid_digits(h.sid)
 }
 
-// Writes the second half of a frame's line from place `at` on: a space, its SID, that session's unread packets, LF. Answers the place behind it; no
-// other byte changes.
-pub fn of_session(out: &mut [u8], at: usize, sid: [u8; 4], unread: u32) -> usize
-    requires { at + 17 ≤ length out.old }
-    ensures { Wrote out.old at (of_session sid unread) out.new result }
+// The word for an end that is up, or down.
+pub fn state(up: bool) -> &'static [u8]
+    ensures { result.now ≡ up_word up }
 {
-    out[at] = b' ';
-    let b = copy(out, at + 1, &sid);
-    last_number(out, b, unread)
-}
-
-// Writes `end up` or `end down` from place `at` on, and answers the place behind it. No other byte changes.
-pub fn state(out: &mut [u8], at: usize, up: bool) -> usize
-    requires { at + 8 ≤ length out.old }
-    ensures { Wrote out.old at (end_state up) out.new result }
-{
-    if up {
-        return copy(out, at, b"end up");
-    }
-    copy(out, at, b"end down")
+    if up { b"up" } else { b"down" }
 }

@@ -2,83 +2,71 @@
 // free slot is the last one seen.
 #![tactic(auto)]
 
-ghost use Rattle.std.specs.Prelude.{◌≡◌};
+ghost use Rattle.std.specs.Prelude.{◌≡◌, ◌&&◌, ◌||◌};
+ghost use Rattle.session.specs.Record.{highest, payload_limit};
+ghost use Rattle.session.specs.Well.{in_order};
 ghost use Rattle.table.specs.Limits.{base};
-ghost use Rattle.scan.specs.Look.{seen_nothing, look_of};
+ghost use Rattle.table.specs.Well.{is_free};
+ghost use Rattle.scan.specs.Look.{look_of};
 
-use cases::either;
+use cases::refusal::Refusal;
 use session::record::Session;
 use sids::sids_differ;
 use table::end::End;
 
-// Whether the end is well made, the slot and the record of a SID, and the lowest free slot.
-#[derive(Clone, Copy)]
-pub struct Look {
-    pub made: bool,
+// A session and the slot that holds it.
+#[derive(Clone, Copy, Debug, PartialEq, Eq)]
+pub struct Found {
     pub slot: usize,
     pub session: Session,
-    pub free: usize,
 }
 
-// What is seen of an end that isn't well made: nothing else.
-fn nothing() -> Look
-    ensures { result ≡ seen_nothing }
-{
-    Look {
-        made: false,
-        slot: 0,
-        session: Session::free(),
-        free: 0,
-    }
+// What was seen of a well-made end: the session with a SID, and the lowest free slot, where there is one.
+#[derive(Clone, Copy, Debug, PartialEq, Eq)]
+pub struct Look {
+    pub found: Option<Found>,
+    pub free: Option<usize>,
 }
 
-// One look through the slots: whether the end is well made, and then the slot and record of the session with that SID (16 and a free record where
-// there is none) and the lowest free slot (16 where there is none). SIDs are marked by their rest modulo 64: where no mark is met twice they differ,
-// and no slot is held against another.
-pub fn scan(e: End, sid: u16) -> Look
-    ensures { result ≡ look_of base e sid }
+// Whether a record may stand in a slot of an end that is up, or down: in order by itself, and no session's where the end is down.
+fn may_stand(x: Session, up: bool) -> bool
+    ensures { result ≡ in_order highest payload_limit x && (up || is_free x) }
 {
-    let up = e.up;
-    let mut slot = End::SLOTS;
-    let mut free = End::SLOTS;
+    x.in_order(Session::HIGHEST, Session::PAYLOAD) && (up || !x.state.in_use())
+}
+
+// One look through the slots: whether the end is well made, and then the session with that SID and the lowest free slot. SIDs are marked by their rest
+// modulo 64: where no mark is met twice they differ, and no slot is held against another. An end that isn't well made is refused, 12.
+#[tactic(auto, using(crate::proofs::Seen::look_alike))]
+pub fn scan(e: &End, sid: u16) -> Result<Look, Refusal>
+    ensures { result ≡ look_of base e.now sid }
+{
+    let slots = &e.slots[..];
+    let mut slot = None;
+    let mut free = None;
     let mut marks = [false; 64];
     let mut twice = false;
-    let mut i = End::SLOTS;
-    while 0 < i {
-        i -= 1;
-        let x = e.slots[i];
-        if !x.in_order(Session::HIGHEST, Session::PAYLOAD) {
-            return nothing();
+    for (i, x) in slots.iter().enumerate().rev() {
+        if !may_stand(*x, e.up) {
+            return Err(Refusal::IllMade);
         }
-        let st = x.state;
-        if st.in_use() {
-            if !up {
-                return nothing();
-            }
-            let id = x.sid;
-            let k = (id % 64) as usize;
-            twice = either(marks[k], twice);
+        if x.state.in_use() {
+            let k = usize::from(x.sid % 64);
+            twice |= marks[k];
             marks[k] = true;
-            if id == sid {
-                slot = i;
+            if x.sid == sid {
+                slot = Some(i);
             }
         } else {
-            free = i;
+            free = Some(i);
         }
     }
-    if twice {
-        if !sids_differ(e) {
-            return nothing();
-        }
+    if twice && !sids_differ(e) {
+        return Err(Refusal::IllMade);
     }
-    let mut found = Session::free();
-    if slot < End::SLOTS {
-        found = e.slots[slot];
-    }
-    Look {
-        made: true,
-        slot: slot,
-        session: found,
-        free: free,
-    }
+    let found = slot.map(|slot| Found {
+        slot,
+        session: slots[slot],
+    });
+    Ok(Look { found, free })
 }

@@ -13,7 +13,7 @@ use Rattle.table.specs.declared.end.End.{End}
 use Rattle.table.specs.Slots.{session_of}
 use Rattle.table.specs.End.{changed_of}
 use Rattle.table.specs.Limits.{Limits, base}
-use Rattle.send.specs.declared.Sent.{Sent}
+use Rattle.send.specs.Send.{SendAnswer}
 use Rattle.send.specs.Send.{send_number, data_header, send_done, send_refused, send_of, send_packet, SendPromise}
 
 pub send_long : (lim : Limits) (e : End) (sid : ℕ) (payload : List ℕ) (room : ℕ)
@@ -22,11 +22,11 @@ unfolding send_packet send_of
 send_long lim e sid payload room =
     let h = data_header (session_of sid e.slots) (length payload) in
     let n = send_number lim e sid (length payload) room in
-    done_length (λ (a : Sent). a.length) n (send_done (header_length + length payload) (changed_of sid sent_on e)) (send_refused n e)
+    done_length (λ (a : SendAnswer). a.length) n (send_done (header_length + length payload) (changed_of sid sent_on e)) (send_refused n e)
     (packet_bytes h payload) (λ z. packet_length_lem h payload) refl
 
 -- so they are at the front of the buffer, whatever number comes back
-pub send_counts : {e : End} {sid : ℕ} {payload lent exit : List ℕ} {r : Sent} → SendPromise e sid payload lent r exit → Front r.length exit
+pub send_counts : {e : End} {sid : ℕ} {payload lent exit : List ℕ} {r : SendAnswer} → SendPromise e sid payload lent r exit → Front r.length exit
 send_counts {e} {sid} {payload} {lent} q =
     onto_front (send_packet base e sid payload (length lent)) lent q.packet
-    (send_long base e sid payload (length lent) ∙ ap (λ (a : Sent). a.length) (sym q.answer))
+    (send_long base e sid payload (length lent) ∙ ap (λ (a : SendAnswer). a.length) (sym q.answer))

@@ -1,68 +1,78 @@
 -- Send: from what the code found to its promise.
-use Prim.Native.Nat.{ℕ, ◌+◌, ◌≤◌}
-use mathlib.Core.Path.{◌≡◌, refl, sym, ap, ◌∙◌}
-use mathlib.Core.Bool.{true, false}
-use mathlib.Core.List.{List, ◌++◌}
-use lib.ListN.{length}
-use borrow.Author.Tests.{ltb-false, not-false}
-use Rattle.cases.specs.Cases.{first}
+use Rattle.std.proofs.Common.{ℕ, ◌+◌, ◌≤◌, ◌≡◌, List, length, refl, sym, ap, ◌∙◌, Result, Ok, Err, IsErr}
+use borrow.Author.Tests.{ltb-false}
+use Rattle.cases.specs.declared.refusal.Refusal.{Refusal}
+use Rattle.cases.specs.Cases.{first, refusal_number, number_in}
 use Rattle.cases.proofs.First.{numbered, test, clear}
+use Rattle.cases.proofs.Tests.{never}
+use Rattle.cases.proofs.Refused.{positive, stops, passes}
 use Rattle.wire.specs.declared.header.Header.{Header}
 use Rattle.wire.specs.Packet.{header_length, packet_bytes}
-use Rattle.buffer.specs.Onto.{onto}
+use Rattle.wire.proofs.Headers.{packet_length_lem}
+use Rattle.buffer.specs.Onto.{onto, Front}
+use Rattle.buffer.proofs.Onto.{onto_front}
 use Rattle.session.specs.declared.record.Session.{Session}
 use Rattle.session.specs.Record.{payload_limit}
 use Rattle.session.specs.Changes.{sent_on}
 use Rattle.table.specs.declared.end.End.{End}
-use Rattle.scan.specs.declared.Look.{Look}
 use Rattle.table.specs.Slots.{session_of}
-use Rattle.table.specs.End.{put_of, changed_of}
-use Rattle.scan.specs.Look.{look_of}
-use Rattle.send.specs.declared.Sent.{Sent}
+use Rattle.table.specs.End.{put_of}
 use Rattle.table.specs.Limits.{base}
-use Rattle.table.specs.Well.{well_made}
-use Rattle.calling.specs.Calling.{seen_cases, calling}
-use Rattle.send.specs.Send.{send_cases, send_number, data_header, send_done, send_refused, send_of, send_packet, SendPromise}
-use Rattle.calling.proofs.Answers.{refused, untouched, answered, filled}
-use Rattle.calling.proofs.Looked as looked
+use Rattle.scan.specs.declared.Found.{Found}
+use Rattle.calling.specs.Calling.{calling, IsThat}
+use Rattle.calling.proofs.Looked.{put_back}
+use Rattle.calling.proofs.Told.{refused, untouched, answered, filled}
+use Rattle.send.specs.Send.{send_cases, send_number, data_header, send_done, send_refused, send_of, send_packet, send_says, SendPromise}
 
--- the code saw l and found the number n, for the payload p and the packet buffer b
-module _ (e : End) (sid : ℕ) (p b : List ℕ) {l : Look} {n : ℕ}
-    (look : l ≡ look_of base e sid)
-    (number : n ≡ first (seen_cases l e.up ++ send_cases base l.session (length p) (length b))) where
-  is_number : n ≡ send_number base e sid (length p) (length b)
-  unfolding send_number
-  is_number = number ∙ looked.asked e sid l look (λ (x : Session). send_cases base x (length p) (length b))
-
-  pub send_refused_lem : {r : Sent} → r ≡ send_refused n e → (n ≡ 0 → ⊥) → SendPromise e sid p b r b
+-- for the payload p and the packet buffer b
+module _ (e : End) (sid : ℕ) (p b : List ℕ) where
+  refusal : (r : Refusal) → refusal_number r ≡ send_number base e sid (length p) (length b) → SendPromise e sid p b (send_says (Err r) e) b
   unfolding send_of send_packet
-  send_refused_lem q h = record { answer = refused is_number h _ (λ (k : ℕ). send_refused k e) q; packet = untouched is_number h _ b }
+  refusal r q = record { answer = refused r q _ (λ (k : ℕ). send_refused k e); packet = untouched r q _ b }
 
-  -- no case applies
-  none : n ≡ 0 → (k : ℕ) → test (calling base e sid ++ send_cases base (session_of sid e.slots) (length p) (length b)) k ≡ false
+  -- the session isn't found
+  pub unfound : (s : Result ℕ Refusal) → IsErr s → number_in s ≡ first (calling base e sid) → SendPromise e sid p b (send_says s e) b
   unfolding send_number numbered
-  none z k = clear _ k refl (sym is_number ∙ z)
+  unfound (Ok n) i q = never i
+  unfound (Err r) i q = refusal r (stops (calling base e sid) (send_cases base (session_of sid e.slots) (length p) (length b)) refl (positive r) q)
 
-  pub send_limit : n ≡ 0 → length p ≤ payload_limit
-  unfolding test
-  send_limit z = ltb-false _ _ (none z 6)
+  module _ {f : Found} (that : IsThat f e sid) (zero : 0 ≡ first (calling base e sid)) where
+    number_is : {n : ℕ} → n ≡ first (send_cases base f.session (length p) (length b)) → n ≡ send_number base e sid (length p) (length b)
+    unfolding send_number numbered
+    number_is q =
+        passes (calling base e sid) (send_cases base (session_of sid e.slots) (length p) (length b)) refl zero
+        (q ∙ ap (λ (x : Session). first (send_cases base x (length p) (length b))) that.session)
 
-  pub send_room_lem : n ≡ 0 → header_length + length p ≤ length b
-  unfolding test
-  send_room_lem z = ltb-false _ _ (none z 9)
+    -- it is found, and refuses
+    pub unsent : (s : Result ℕ Refusal) → IsErr s → number_in s ≡ first (send_cases base f.session (length p) (length b)) → SendPromise e sid p b (send_says s e) b
+    unsent (Ok n) i q = never i
+    unsent (Err r) i q = refusal r (number_is q)
 
-  made : n ≡ 0 → well_made base e ≡ true
-  unfolding test
-  made z = not-false _ (none z 12)
+    pub sent : 0 ≡ first (send_cases base f.session (length p) (length b)) → {h : Header} {y : Session} {d : End} {b' : List ℕ}
+        → h ≡ data_header f.session (length p) → y ≡ sent_on f.session → d ≡ put_of f.slot y e → b' ≡ onto (packet_bytes h p) b
+        → SendPromise e sid p b (send_done (header_length + length p) d) b'
+    unfolding send_of send_packet
+    sent z {h} {y} {d} {b'} ph py pd pb = record {
+      answer =
+          ap (send_done (header_length + length p)) (pd ∙ ap (λ (x : Session). put_of f.slot x e) py ∙ put_back that sent_on)
+          ∙ answered (number_is z) _ _;
+      packet =
+          pb
+          ∙ ap (λ (g : Header). onto (packet_bytes g p) b) (ph ∙ ap (λ (x : Session). data_header x (length p)) that.session)
+          ∙ filled (number_is z) _ b;
+    }
 
-  pub send_done_lem : n ≡ 0 → {h : Header} {y : Session} {d : End} {r : Sent} {b' : List ℕ} → h ≡ data_header l.session (length p) → y ≡ sent_on l.session
-      → d ≡ put_of l.slot y e → r ≡ send_done (header_length + length p) d → b' ≡ onto (packet_bytes h p) b → SendPromise e sid p b r b'
-  unfolding send_of send_packet
-  send_done_lem z {h} {y} {d} ph py pd pr pb =
-      let end : d ≡ changed_of sid sent_on e = pd ∙ ap (λ (x : Session). put_of l.slot x e) py ∙ looked.put_back e sid l look (made z) sent_on in
-      let head : h ≡ data_header (session_of sid e.slots) (length p) = ph
-      ∙ ap (λ (x : Session). data_header x (length p)) (looked.this e sid l look (made z)) in
-      record {
-        answer = answered is_number z _ (pr ∙ ap (send_done (header_length + length p)) end);
-        packet = filled is_number z _ b (pb ∙ ap (λ (k : Header). onto (packet_bytes k p) b) head);
-      }
+-- where no case applies, the payload is within the limit and there is room
+module _ (x : Session) (n room : ℕ) (z : 0 ≡ first (send_cases base x n room)) where
+  pub limit : n ≤ payload_limit
+  unfolding test numbered
+  limit = ltb-false _ _ (clear (send_cases base x n room) 6 refl (sym z))
+
+  pub long : header_length + n ≤ room
+  unfolding test numbered
+  long = ltb-false _ _ (clear (send_cases base x n room) 9 refl (sym z))
+
+-- so the packet is at the front of the buffer
+pub front : (x : Session) (p b : List ℕ) → 0 ≡ first (send_cases base x (length p) (length b)) → (h : Header) {b' : List ℕ} → b' ≡ onto (packet_bytes h p) b
+    → Front (header_length + length p) b'
+front x p b z h q = onto_front (packet_bytes h p) b q (packet_length_lem h p)

@@ -1,48 +1,34 @@
-// What send decides from a look at the table and small values: its number, and the header of its DATA.
-ghost use Rattle.std.specs.Prelude.{◌≡◌, ◌++◌, ◌≤◌};
-ghost use Rattle.cases.specs.Cases.{first};
+// What send decides from the session and small values: whether it refuses, and the header of its DATA.
+ghost use Rattle.std.specs.Prelude.{◌≡◌, ◌≤◌};
+ghost use Rattle.cases.specs.Cases.{first, number_in};
 ghost use Rattle.session.specs.Record.{payload_limit};
 ghost use Rattle.table.specs.Limits.{base};
-ghost use Rattle.calling.specs.Calling.{seen_cases};
 ghost use Rattle.send.specs.Send.{send_cases, data_header};
 
-use calling::called_number;
-use cases::{first_of, number};
-use scan::Look;
+use cases::refusal::Refusal;
 use session::counter;
-use session::record::Session;
+use session::record::{Session, State};
 use wire::header::Header;
 use wire::kind::Kind;
 
-// 5, 6, 7, 9, for n bytes of payload and so much room.
+// Send's refusal of a payload of n bytes in that session, with so much room in the packet buffer: 5, 6, 7, 9.
 #[tactic(auto, unfolding(cases::specs::Cases::first))]
-fn session_number(x: Session, n: usize, room: usize) -> u8
-    ensures { result ≡ first (send_cases base x n room) }
+pub fn may_send(x: Session, n: usize, room: usize) -> Result<(), Refusal>
+    ensures { number_in result ≡ first (send_cases base x n room) }
 {
-    let st = x.state;
-    if !st.established() {
-        return number::WRONG_STATE;
+    if x.state != State::Established {
+        return Err(Refusal::WrongState);
     }
-    if (Session::PAYLOAD as usize) < n {
-        return number::PAYLOAD_TOO_LONG;
+    if usize::from(Session::PAYLOAD) < n {
+        return Err(Refusal::PayloadTooLong);
     }
     if x.s == x.h {
-        return number::WINDOW_CLOSED;
+        return Err(Refusal::WindowClosed);
     }
     if room < Header::LEN + n {
-        return number::TOO_SHORT;
+        return Err(Refusal::TooShort);
     }
-    number::DONE
-}
-
-// Send's number, of what was seen of the end, whether it is up, the payload's length n and the room in the packet buffer: 12, 1, 4, then the
-// session's; 0 if it is done.
-#[tactic(auto, using(calling::proofs::Looked::found))]
-pub fn send_number(l: Look, up: bool, n: usize, room: usize) -> u8
-    ensures { result ≡ first (seen_cases l up ++ send_cases base l.session n room) }
-{
-    let x = l.session;
-    first_of(called_number(l, up), session_number(x, n, room))
+    Ok(())
 }
 
 // The header of the DATA that a session emits for n bytes: its SID, LENGTH 16 + n, SEQNUM S + 1, WNDW G.

@@ -4,11 +4,11 @@ use Prim.Native.Nat.{ℕ, ◌≤◌}
 use mathlib.Core.List.{List}
 use lib.ListN.{length}
 use Rattle.table.specs.declared.end.End.{End}
-use Rattle.open.specs.declared.Opened.{Opened}
-use Rattle.send.specs.declared.Sent.{Sent}
-use Rattle.read.specs.declared.Got.{Got}
-use Rattle.close.specs.declared.Closed.{Closed}
-use Rattle.take.specs.declared.Taken.{Taken}
+use Rattle.open.specs.Open.{OpenAnswer}
+use Rattle.send.specs.Send.{SendAnswer}
+use Rattle.read.specs.Read.{ReadAnswer}
+use Rattle.close.specs.Close.{CloseAnswer}
+use Rattle.take.specs.Take.{TakeAnswer}
 use Rattle.open.specs.Open.{OpenPromise}
 use Rattle.send.specs.Send.{SendPromise}
 use Rattle.read.specs.Read.{ReadPromise}
@@ -21,21 +21,21 @@ use Rattle.close.proofs.Emitted.{close_counts}
 use Rattle.take.proofs.Used.{used_counts}
 
 module _ {e : End} where
-  pub open_length : {lent exit : List ℕ} {r : Opened} → OpenPromise e lent r exit → r.length ≤ length exit
+  pub open_length : {lent exit : List ℕ} {r : OpenAnswer} → OpenPromise e lent r exit → r.length ≤ length exit
   open_length q = (open_counts q).0
 
-  pub send_length : {sid : ℕ} {payload lent exit : List ℕ} {r : Sent} → SendPromise e sid payload lent r exit → r.length ≤ length exit
+  pub send_length : {sid : ℕ} {payload lent exit : List ℕ} {r : SendAnswer} → SendPromise e sid payload lent r exit → r.length ≤ length exit
   send_length q = (send_counts q).0
 
-  module _ {sid : ℕ} {storage lent lentAck exit exitAck : List ℕ} {r : Got} (q : ReadPromise e sid storage lent lentAck r exit exitAck) where
+  module _ {sid : ℕ} {storage lent lentAck exit exitAck : List ℕ} {r : ReadAnswer} (q : ReadPromise e sid storage lent lentAck r exit exitAck) where
     pub read_payload_length : r.payload_length ≤ length exit
     read_payload_length = (read_counts q).0.0
 
     pub read_ack_length : r.ack_length ≤ length exitAck
     read_ack_length = (read_counts q).1.0
 
-  pub close_length : {sid : ℕ} {lent exit : List ℕ} {r : Closed} → ClosePromise e sid lent r exit → r.length ≤ length exit
+  pub close_length : {sid : ℕ} {lent exit : List ℕ} {r : CloseAnswer} → ClosePromise e sid lent r exit → r.length ≤ length exit
   close_length q = (close_counts q).0
 
-  pub take_used : {bytes lent exit : List ℕ} {r : Taken} → TakePromise e bytes lent r exit → r.used ≤ length bytes
+  pub take_used : {bytes lent exit : List ℕ} {r : TakeAnswer} → TakePromise e bytes lent r exit → r.used ≤ length bytes
   take_used q = used_counts q

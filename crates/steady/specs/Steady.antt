@@ -4,13 +4,14 @@ use Rattle.cases.specs.Cases.{if}
 use Rattle.buffer.specs.Onto.{onto}
 use Rattle.table.specs.declared.end.End.{End}
 use Rattle.table.specs.Limits.{base}
-use Rattle.send.specs.declared.Sent.{Sent}
+use Rattle.send.specs.Send.{SendAnswer}
 use Rattle.send.specs.Send.{send_of, send_packet}
-use Rattle.read.specs.declared.Got.{Got}
+use Rattle.read.specs.Read.{ReadAnswer}
 use Rattle.read.specs.Read.{read_of, read_payload, read_ack}
-use Rattle.take.specs.declared.Taken.{Taken}
+use Rattle.take.specs.Take.{TakeAnswer}
 use Rattle.take.specs.Take.{take_of, take_storage}
 use Rattle.steady.specs.declared.answer.Answer.{Answer}
+use Rattle.steady.specs.declared.turns.Turns.{Turns}
 
 -- ---- what comes back
 
@@ -38,6 +39,10 @@ past_of at used n = min (at + used) n
 abbrev pub next_sid : ℕ → ℕ → ℕ → ℕ
 next_sid sid last step = if (sid == last) 0 ((sid + step) % 2 ^ 16)
 
+-- the turns behind the next
+abbrev pub after_turn : Turns → Turns
+after_turn t = record { sid = next_sid t.sid t.last t.step; last = t.last; step = t.step }
+
 -- a step taken n times
 unfoldable pub times : {A : Type 0} → ℕ → (A → A) → A → A
 times zero step a = a
@@ -54,7 +59,7 @@ abbrev pub sending_of : Answer → ℕ → List ℕ → Sending
 sending_of a sid packet = record { answer = a; sid = sid; packet = packet }
 
 -- the last answer, and the sum with it
-abbrev pub sent_answer : ℕ → Sent → Answer
+abbrev pub sent_answer : ℕ → SendAnswer → Answer
 sent_answer sum s = answer_of s.number (s.length ∷ 0 ∷ 0 ∷ 0 ∷ []) (tally_of sum s.number s.length) s.end
 
 unfoldable pub send_step : List ℕ → ℕ → ℕ → Sending → Sending
@@ -76,7 +81,7 @@ pub record Reading : Type 0 where
 abbrev pub reading_of : Answer → ℕ → List ℕ → List ℕ → Reading
 reading_of a sid payload ack = record { answer = a; sid = sid; payload = payload; ack = ack }
 
-abbrev pub got_answer : ℕ → Got → Answer
+abbrev pub got_answer : ℕ → ReadAnswer → Answer
 got_answer sum r =
     answer_of r.number (r.payload_length ∷ r.ack_length ∷ 0 ∷ 0 ∷ []) (tally_of sum r.number r.payload_length) r.end
 
@@ -101,7 +106,7 @@ pub record Taking : Type 0 where
 abbrev pub taking_of : Answer → ℕ → List ℕ → Taking
 taking_of a at storage = record { answer = a; at = at; storage = storage }
 
-abbrev pub taken_answer : ℕ → Taken → Answer
+abbrev pub taken_answer : ℕ → TakeAnswer → Answer
 taken_answer sum t =
     answer_of t.number (t.used ∷ t.kind ∷ t.sid ∷ t.missing ∷ []) (tally_of sum t.number t.used) t.end
 
@@ -109,7 +114,7 @@ taken_answer sum t =
 abbrev pub left_of : List ℕ → Taking → List ℕ
 left_of bytes g = drop g.at bytes
 
-abbrev pub taken_by : List ℕ → Taking → Taken
+abbrev pub taken_by : List ℕ → Taking → TakeAnswer
 taken_by bytes g = take_of base g.answer.end (left_of bytes g) (length g.storage)
 
 unfoldable pub take_step : List ℕ → Taking → Taking

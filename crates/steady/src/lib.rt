@@ -2,134 +2,69 @@
 #![tactic(auto)]
 
 pub mod answer;
+pub mod turns;
 
-ghost use Rattle.std.specs.Prelude.{◌≡◌, ◌≤◌};
-ghost use Rattle.steady.specs.Steady.{tally_of, past_of, next_sid, sends_of, reads_of, takes_of};
+ghost use Rattle.std.specs.Prelude.{◌≡◌};
+ghost use Rattle.steady.specs.Steady.{sends_of, reads_of, takes_of};
 
-use crate::answer::Answer;
+use answer::Answer;
 use read::read;
 use send::send;
 use table::end::End;
 use take::take;
-
-// So that no call can be left out.
-fn tally(sum: u64, number: u8, length: usize) -> u64
-    ensures { result ≡ tally_of sum number length }
-{
-    std::num::wrapping_add_u64(
-        std::num::wrapping_add_u64(sum, number as u64),
-        length as u64,
-    )
-}
-
-// Past the bytes used, and never past the last.
-fn past(at: usize, used: usize, n: usize) -> usize
-    requires { at ≤ n }
-    ensures { result ≡ past_of at used n }
-{
-    if used <= n - at { at + used } else { n }
-}
-
-// The sessions in turn: 0, step, 2 step, and so on to the last.
-fn next_sid(sid: u16, last: u16, step: u16) -> u16
-    ensures { result ≡ next_sid sid last step }
-{
-    if sid == last {
-        0
-    } else {
-        std::num::wrapping_add_u16(sid, step)
-    }
-}
+use turns::Turns;
 
 // Takes count packets from the front of `bytes`, each take given what the ones before left; payloads go to the storage as take says. What comes back
 // is the last answer's number and values (zeros for no take), the sum of all numbers and bytes used, and the end after the last.
+#[tactic(auto, using(crate::proofs::Loops::takes_first, crate::proofs::Loops::takes_on, crate::proofs::Loops::takes_stop))]
 pub fn takes(first: End, bytes: &[u8], storage: &mut [u8], count: usize) -> Answer
     ensures value { result ≡ (takes_of first bytes.now storage.old count).answer }
     ensures storage_after { storage.new ≡ (takes_of first bytes.now storage.old count).storage }
 {
-    let mut e = first;
-    let mut number = 0;
-    let mut values = [0; 4];
+    let mut answer = Answer::none(first);
     let mut at = 0;
-    let mut sum = 0;
-    let mut n = 0;
-    while n < count {
-        let t = take(e, &bytes[at..], storage);
-        at = past(at, t.used, bytes.len());
-        sum = tally(sum, t.number, t.used);
-        number = t.number;
-        values = [t.used as u64, t.kind as u64, t.sid as u64, t.missing as u64];
-        let after = t.end;
-        e = after;
-        n += 1;
+    for _ in 0..count {
+        let taken = take(&mut answer.end, &bytes[at..], storage);
+        answer.taken(taken);
+        at += taken.map_or(0, |t| t.used);
     }
-    Answer::of(number, values, sum, e)
+    answer
 }
 
-// Sends one payload count times, in the session `start` and then in each in turn, every packet to the front of the same buffer. What comes back is
-// the last answer's number and length (zeros for no send), the sum of all numbers and lengths, and the end after the last.
-pub fn sends(
-    first: End,
-    start: u16,
-    payload: &[u8],
-    packet: &mut [u8],
-    count: usize,
-    last: u16,
-    step: u16,
-) -> Answer
-    ensures value { result ≡ (sends_of first start payload.now packet.old count last step).answer }
-    ensures packet_after { packet.new ≡ (sends_of first start payload.now packet.old count last step).packet }
+// Sends one payload count times, on each session in turn, every packet to the front of the same buffer. What comes back is the last answer's number
+// and length (zeros for no send), the sum of all numbers and lengths, and the end after the last.
+#[tactic(auto, using(crate::proofs::Loops::sends_first, crate::proofs::Loops::sends_on, crate::proofs::Loops::sends_stop))]
+pub fn sends(first: End, turns: Turns, payload: &[u8], packet: &mut [u8], count: usize) -> Answer
+    ensures value { result ≡ (sends_of first turns.sid payload.now packet.old count turns.last turns.step).answer }
+    ensures packet_after { packet.new ≡ (sends_of first turns.sid payload.now packet.old count turns.last turns.step).packet }
 {
-    let mut e = first;
-    let mut sid = start;
-    let mut number = 0;
-    let mut values = [0; 4];
-    let mut sum = 0;
-    let mut n = 0;
-    while n < count {
-        let s = send(e, sid, payload, packet);
-        sid = next_sid(sid, last, step);
-        sum = tally(sum, s.number, s.length);
-        number = s.number;
-        values = [s.length as u64, 0, 0, 0];
-        let after = s.end;
-        e = after;
-        n += 1;
+    let mut answer = Answer::none(first);
+    for sid in turns.take(count) {
+        let sent = send(&mut answer.end, sid, payload, packet);
+        answer.sent(sent);
     }
-    Answer::of(number, values, sum, e)
+    answer
 }
 
-// Reads count payloads, from the session `start` and then from each in turn, all to the front of the same two buffers. What comes back is the last
-// answer's number and lengths (zeros for no read), the sum of all numbers and payload lengths, and the end after the last.
+// Reads count payloads, from each session in turn, all to the front of the same two buffers. What comes back is the last answer's number and lengths
+// (zeros for no read), the sum of all numbers and payload lengths, and the end after the last.
+#[tactic(auto, using(crate::proofs::Loops::reads_first, crate::proofs::Loops::reads_on, crate::proofs::Loops::reads_stop))]
 pub fn reads(
     first: End,
-    start: u16,
+    turns: Turns,
     storage: &[u8],
     payload: &mut [u8],
     ack: &mut [u8],
     count: usize,
-    last: u16,
-    step: u16,
 ) -> Answer
-    ensures value { result ≡ (reads_of first start storage.now payload.old ack.old count last step).answer }
-    ensures payload_after { payload.new ≡ (reads_of first start storage.now payload.old ack.old count last step).payload }
-    ensures ack_after { ack.new ≡ (reads_of first start storage.now payload.old ack.old count last step).ack }
+    ensures value { result ≡ (reads_of first turns.sid storage.now payload.old ack.old count turns.last turns.step).answer }
+    ensures payload_after { payload.new ≡ (reads_of first turns.sid storage.now payload.old ack.old count turns.last turns.step).payload }
+    ensures ack_after { ack.new ≡ (reads_of first turns.sid storage.now payload.old ack.old count turns.last turns.step).ack }
 {
-    let mut e = first;
-    let mut sid = start;
-    let mut number = 0;
-    let mut values = [0; 4];
-    let mut sum = 0;
-    let mut n = 0;
-    while n < count {
-        let g = read(e, sid, storage, payload, ack);
-        sid = next_sid(sid, last, step);
-        sum = tally(sum, g.number, g.payload_length);
-        number = g.number;
-        values = [g.payload_length as u64, g.ack_length as u64, 0, 0];
-        let after = g.end;
-        e = after;
-        n += 1;
+    let mut answer = Answer::none(first);
+    for sid in turns.take(count) {
+        let got = read(&mut answer.end, sid, storage, payload, ack);
+        answer.got(got);
     }
-    Answer::of(number, values, sum, e)
+    answer
 }

@@ -1,4 +1,3 @@
 pub mod SynKeeps
-pub mod Taking
 pub mod Answered
 pub mod Used

@@ -1,124 +1,33 @@
 // Take: one packet from the front of the bytes given. Crate judge says what is to be done with it; here it is done.
 #![tactic(auto)]
 
-ghost use Rattle.std.specs.Prelude.{◌≡◌, ◌+◌, ◌-◌, ◌≤◌, length};
-ghost use Rattle.wire.specs.Packet.{header_length};
-ghost use Rattle.session.specs.Record.{payload_limit};
+ghost use Rattle.std.specs.Prelude.{◌≡◌, ◌≤◌, length, IfOk};
+ghost use Rattle.wire.specs.Packet.{flags_of};
 ghost use Rattle.effect.specs.declared.cell.Cell as cell;
 ghost use Rattle.table.specs.Limits.{base};
-ghost use Rattle.take.specs.Take.{kept, TakePromise};
-ghost use Rattle.take.specs.Parts.{values_done, values_stopped, values_of, Bounded, change_of, Fits, Stores, kept_by};
+ghost use Rattle.judge.specs.Act.{IsJudged};
+ghost use Rattle.take.specs.Take.{taken_end, kept, taken_storage, take_says, TakePromise};
+ghost use Rattle.take.specs.Parts.{Fits};
 
 use buffer::copy_in;
-use cases::number;
 use effect::cell::{Cell, becomes};
-use judge::{Act, act_of, front, missing};
-use scan::{Look, scan};
+use judge::stop::Stop;
+use judge::{Act, Judged, judge};
 use session::record::Session;
-use table::end::{Change, End};
+use table::end::End;
 use table::storage;
 use wire::header::Header;
+use wire::kind::Kind;
 
-// What take answers. After a refusal or a fault used, kind and sid are 0.
-#[derive(Clone, Copy)]
+// What a take gives that was done.
+#[derive(Clone, Copy, Debug, PartialEq, Eq)]
 pub struct Taken {
-    // 0; a refusal: 12, 1, 9, 10; or a fault, 20 to 30.
-    pub number: u8,
     // How many bytes at the front of `bytes` were the packet: drop them.
     pub used: usize,
-    // The packet's FLAGS: 1 SYN, 2 ACK, 4 FIN, 8 DATA.
-    pub kind: u8,
+    // The packet's kind.
+    pub kind: Kind,
     // The packet's SID: after DATA or FIN, read that session.
     pub sid: u16,
-    // Beside 10, how many more bytes are needed to go on; else 0.
-    pub missing: usize,
-    // The end after the packet; as it was given after a refusal; down after a fault.
-    pub end: End,
-}
-
-// What an answer gives beside the end. It is apart from `Taken` so that an end is put into an answer at one place: a function that is given the
-// end and answers with it costs a copy of the whole record (docs/SPEED.md).
-#[derive(Clone, Copy)]
-struct Values {
-    number: u8,
-    used: usize,
-    kind: u8,
-    sid: u16,
-    missing: usize,
-}
-
-impl Values {
-    // A packet that was handled.
-    fn done(h: Header) -> Values
-        ensures { result ≡ values_done h }
-    {
-        Values {
-            number: number::DONE,
-            used: h.length as usize,
-            kind: h.flags,
-            sid: h.sid,
-            missing: 0,
-        }
-    }
-
-    // A refusal or a fault, with 10's count.
-    fn stopped(n: u8, more: usize) -> Values
-        ensures { result ≡ values_stopped n more }
-    {
-        let m = if n == number::MORE_BYTES { more } else { 0 };
-        Values {
-            number: n,
-            used: 0,
-            kind: 0,
-            sid: 0,
-            missing: m,
-        }
-    }
-
-    fn of(a: Act, h: Header, given: usize) -> Values
-        ensures { result ≡ values_of a h given }
-    {
-        match a {
-            Act::Stop(n) => Values::stopped(n, missing(h, given)),
-            Act::Begin => Values::done(h),
-            Act::Do(_) => Values::done(h),
-        }
-    }
-}
-
-// The length of a packet's payload.
-fn payload_length(h: Header) -> u16
-    requires { (header_length ≤ h.length) × (h.length ≤ header_length + payload_limit) }
-    ensures { result ≡ h.length - header_length }
-{
-    (h.length - Header::BARE) as u16
-}
-
-// What becomes of the end: down after a fault, nothing after a refusal, and else one slot replaced.
-fn change(a: Act, l: Look, h: Header) -> Change
-    requires { Bounded a h }
-    ensures { result ≡ change_of a l h }
-{
-    match a {
-        Act::Stop(n) => Change {
-            down: number::SMID <= n,
-            slot: End::SLOTS,
-            session: Session::free(),
-        },
-        Act::Begin => Change {
-            down: false,
-            slot: l.free,
-            session: Session::fresh(h.sid).granted(h.wndw),
-        },
-        Act::Do(c) => {
-            let x = l.session;
-            Change {
-                down: false,
-                slot: l.slot,
-                session: becomes(x, c, h.seqnum, h.wndw, payload_length(h)),
-            }
-        }
-    }
 }
 
 // A packet's payload to its place in a slot.
@@ -131,45 +40,49 @@ fn store(storage: &mut [u8], bytes: &[u8], slot: usize, h: Header)
     copy_in(storage, at, &bytes[Header::LEN..end]);
 }
 
-// The same where it is to be stored.
-fn keep(storage: &mut [u8], bytes: &[u8], a: Act, slot: usize, h: Header)
-    requires { Stores a slot h (length bytes.now) (length storage.old) }
-    ensures { storage.new ≡ kept_by a slot h bytes.now storage.old }
+// What was judged is done: a session begins, or one moves, and DATA's payload goes to its place.
+#[tactic(auto, using(table::proofs::Slots::changed_at))]
+fn carry_out(e: &mut End, bytes: &[u8], storage: &mut [u8], j: Judged)
+    requires { IsJudged j e.old bytes.now (length storage.old) }
+    ensures end { e.new ≡ taken_end (flags_of j.header.flags) j.header e.old }
+    ensures storage { storage.new ≡ taken_storage base (flags_of j.header.flags) e.old j.header bytes.now storage.old }
 {
-    if let Act::Do(c) = a {
-        if let Cell::Store = c {
-            store(storage, bytes, slot, h);
+    let h = j.header;
+    match j.act {
+        Act::Begin(slot) => e.put(slot, Session::fresh(h.sid).granted(h.wndw)),
+        Act::Do(found, cell) => {
+            if cell == Cell::Store {
+                store(storage, bytes, found.slot, h);
+            }
+            let n = (h.length - Header::BARE) as u16;
+            let x = becomes(found.session, cell, h.seqnum, h.wndw, n);
+            e.put(found.slot, x);
         }
     }
 }
 
 // Handles one packet from the front of `bytes`, which came from the transport: a SYN at a server makes a session, the others move theirs, and DATA's
-// payload goes to its place in the storage. Other bytes of the storage and other slots stay. A refusal changes nothing; a fault takes the end down.
-pub fn take(e: End, bytes: &[u8], storage: &mut [u8]) -> Taken
-    ensures take_promise { TakePromise e bytes.now storage.old result storage.new }
-    ensures used_in_bounds { result.used ≤ length bytes.now }
+// payload goes to its place in the storage. Other bytes of the storage and other slots stay. A refusal, 12, 1, 9 or 10, changes nothing; a fault, 20 to
+// 30, takes the end down.
+#[tactic(auto, unfolding(crate::specs::Take::take_of, crate::specs::Take::take_storage, wire::specs::Packet::flags_of))]
+pub fn take(e: &mut End, bytes: &[u8], storage: &mut [u8]) -> Result<Taken, Stop>
+    ensures take_promise { TakePromise e.old bytes.now storage.old (take_says result e.new) storage.new }
+    ensures used_in_bounds { IfOk result (λ t. t.used ≤ length bytes.now) }
 {
-    let h = front(bytes);
-    let l = scan(e, h.sid);
-    let role = e.role;
-    let a = act_of(
-        l,
-        e.up,
-        storage.len() < storage::LENGTH,
-        role,
-        l.free == End::SLOTS,
-        h,
-        bytes.len(),
-    );
-    let c = change(a, l, h);
-    keep(storage, bytes, a, l.slot, h);
-    let v = Values::of(a, h, bytes.len());
-    Taken {
-        number: v.number,
-        used: v.used,
-        kind: v.kind,
-        sid: v.sid,
-        missing: v.missing,
-        end: e.after(c),
+    match judge(e, bytes, storage.len()) {
+        Ok(j) => {
+            carry_out(e, bytes, storage, j);
+            Ok(Taken {
+                used: j.header.length as usize,
+                kind: j.kind,
+                sid: j.header.sid,
+            })
+        }
+        Err(s) => {
+            if let Stop::Fault(_) = s {
+                *e = e.down();
+            }
+            Err(s)
+        }
     }
 }

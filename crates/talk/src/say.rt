@@ -1,5 +1,6 @@
 // Lines on standard output.
-use smp::{End, Role};
+use smp::{Role, Stop};
+use std::fmt;
 use std::io::{Result, Stderr, Stdout, Write};
 
 // Where lines go: standard output, and standard error for what went wrong.
@@ -9,54 +10,56 @@ pub struct Streams {
     pub error: Stderr,
 }
 
-// Where standard output takes no more, standard error is told.
-fn told(mut to: Streams, went: Result<()>) {
-    if went.is_err() {
-        let _ = to.error.write_all(b"talk: standard output took no more\n");
+// A call that stopped: whose it was, which one, and why.
+#[derive(Clone, Copy, Debug, PartialEq, Eq)]
+pub struct Refused {
+    pub role: Role,
+    pub call: &'static str,
+    pub stop: Stop,
+}
+
+impl fmt::Display for Refused {
+    fn fmt<W: fmt::Write>(&self, f: &mut fmt::Formatter<W>) -> fmt::Result {
+        write!(
+            f,
+            "{}: {} answered {}",
+            self.role,
+            self.call,
+            u8::from(self.stop)
+        )
     }
 }
 
-fn text(mut to: Streams, t: &[u8]) {
-    told(to, to.output.write_all(t));
-}
-
-fn number(mut to: Streams, n: u16) {
-    told(to, write!(to.output, "{n}"));
-}
-
-// The end's name.
-fn name(to: Streams, e: End) {
-    let role = e.role;
-    match role {
-        Role::Client => text(to, b"client"),
-        Role::Server => text(to, b"server"),
+impl Streams {
+    // Where standard output takes no more, standard error is told.
+    fn told(mut self, went: Result<()>) {
+        if went.is_err() {
+            let _ = self
+                .error
+                .write_all(b"talk: standard output took no more\n");
+        }
     }
-}
 
-// What an end did with a session.
-pub(crate) fn session(to: Streams, e: End, did: &[u8], sid: u16) {
-    name(to, e);
-    text(to, did);
-    number(to, sid);
-    text(to, b"\n");
-}
+    // What an end did with a session.
+    pub(crate) fn session(mut self, role: Role, did: &str, sid: u16) {
+        let went = write!(self.output, "{role} {did} session {sid}\n");
+        self.told(went);
+    }
 
-// A row that an end read.
-pub(crate) fn row(to: Streams, e: End, row: &[u8], sid: u16) {
-    name(to, e);
-    text(to, b" read ");
-    text(to, row);
-    text(to, b" from session ");
-    number(to, sid);
-    text(to, b"\n");
-}
+    // A row that an end read, as its bytes are.
+    pub(crate) fn row(mut self, role: Role, row: &[u8], sid: u16) {
+        let went = self.written(role, row, sid);
+        self.told(went);
+    }
 
-// A call that didn't answer 0.
-pub(crate) fn refused(to: Streams, e: End, call: &[u8], n: u8) {
-    name(to, e);
-    text(to, b": ");
-    text(to, call);
-    text(to, b" answered ");
-    number(to, n as u16);
-    text(to, b"\n");
+    fn written(mut self, role: Role, row: &[u8], sid: u16) -> Result<()> {
+        write!(self.output, "{role} read ")?;
+        self.output.write_all(row)?;
+        write!(self.output, " from session {sid}\n")
+    }
+
+    pub(crate) fn refused(mut self, refused: Refused) {
+        let went = write!(self.output, "{refused}\n");
+        self.told(went);
+    }
 }

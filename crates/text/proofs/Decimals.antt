@@ -2,14 +2,12 @@
 use Prim.Native.Nat.{ℕ, zero, suc, ◌+◌, ◌*◌, ◌/◌, ◌%◌, ◌^◌, ◌<◌, ◌≤◌}
 use native.Mathlib.Omega.{arith}
 use native.Mathlib.Nat.{not-suc-le-zero, div-lt_iff_lt-mul}
-use mathlib.Core.Path.{◌≡◌, refl, sym, ap, ◌∙◌}
+use mathlib.Core.Path.{◌≡◌, refl, ap}
 use mathlib.Core.Bool.{Bool, true, false}
 use mathlib.Core.List.{List, [], ◌∷◌, ◌++◌}
-use lib.ListN.{length, get_or, set, length-append}
-use lib.Seq.{paste, length-paste}
+use lib.ListN.{length, get_or, length-append}
 use lib.Dec.{ltb}
 use borrow.Author.Tests.{lt-ltb, le-ltb, ltb-true, ltb-false}
-use Rattle.buffer.proofs.Parts.{paste_one, paste_then}
 use Rattle.cases.specs.Cases.{if}
 use Rattle.text.specs.Hex.{glyph, digit_value}
 use Rattle.text.specs.Decimal.{digits, decimal, said}
@@ -50,26 +48,13 @@ spelled n = by (ltb n 10) refl
     by true e = low (ltb-true n 10 e)
     by false e = high (ltb-false n 10 e)
 
--- ---- what the code writes
+-- ---- how many the code writes
 
 pub length_low : (n : ℕ) → n < 10 → length (decimal n) ≡ 1
 length_low n h = rw (decimal_low n h)
 
 pub length_high : (n : ℕ) → 10 ≤ n → length (decimal n) ≡ length (decimal (n / 10)) + 1
 length_high n h = rw (decimal_high n h, length-append)
-
-pub put_low : (d : List ℕ) (at n : ℕ) → n < 10 → at < length d → set d at (glyph n) ≡ paste d at (decimal n) (length (decimal n))
-put_low d at n h k = rw (decimal_low n h) (paste_one d at (glyph n) k)
-
-pub put_high : (d : List ℕ) (at n : ℕ) → 10 ≤ n → at + length (decimal (n / 10)) < length d
-    → set (paste d at (decimal (n / 10)) (length (decimal (n / 10)))) (at + length (decimal (n / 10))) (glyph (n % 10)) ≡ paste d at (decimal n)
-    (length (decimal n))
-put_high d at n h k =
-    let p : List ℕ = decimal (n / 10) in
-    let l : length (paste d at p (length p)) ≡ length d = length-paste d at p (length p) (omega arith) (omega arith) in
-    paste_one (paste d at p (length p)) (at + length p) (glyph (n % 10)) (omega arith)
-    ∙ paste_then d at p (glyph (n % 10) ∷ []) (omega arith)
-    ∙ ap (λ (t : List ℕ). paste d at t (length t)) (sym (decimal_high n h))
 
 -- ---- how many digits
 
@@ -81,6 +66,10 @@ decimal_most (suc k) n h = by (spelled n) (decimal_most k (n / 10) ((div-lt_iff_
     by : Spelled n → length (decimal (n / 10)) ≤ suc k → length (decimal n) ≤ suc (suc k)
     by (low l) p = rw (decimal_low n l) (omega arith)
     by (high l) p = rw (decimal_high n l, length-append) (omega arith)
+
+-- a number of 32 bits has ten at most
+pub most_ten : (n : ℕ) → n < 2 ^ 32 → length (decimal n) ≤ 10
+most_ten n h = decimal_most 9 n (omega arith)
 
 -- ---- the digits say the number
 

@@ -1,31 +1,21 @@
 -- Laws of lines: line by line, as the code goes, and that the lines give the text back.
-use Prim.Native.Nat.{ℕ, suc, ◌+◌, ◌<◌, ◌≤◌}
+use Prim.Native.Nat.{ℕ, suc, ◌+◌, ◌-◌, ◌<◌, ◌≤◌}
 use native.Mathlib.Omega.{arith}
-use native.Mathlib.Numerals.{add-one}
+use native.Mathlib.Nat.{not-suc-le-zero}
 use mathlib.Core.Path.{◌≡◌, refl, sym, ap, ◌∙◌}
-use mathlib.Core.Bool.{Bool, true, false}
+use mathlib.Core.Bool.{Bool, true, false, cond}
 use mathlib.Core.List.{List, [], ◌∷◌}
-use lib.ListN.{length, get_or, take, drop, length-drop, drop_of_length-le}
-use lib.Seq.{drop-cons, drop-drop}
+use lib.ListN.{length, take, drop, length-drop}
+use lib.Seq.{take_all, length-take-le}
 use lib.Dec.{eqb}
-use borrow.Author.Tests.{eq-eqb, ne_eqb, eqb-true}
+use borrow.Author.Tests.{eqb-true, ltb-false}
+use Rattle.std.specs.Prelude.{◌==◌, Option, Some, None, unwrap_or, nat_lt}
+use Rattle.std.specs.List.{position, position_or_len}
+use Rattle.std.proofs.lemmas.List.Recursion.{is_position_or_len}
 use Rattle.cases.specs.Cases.{if}
 use Rattle.text.specs.Lines.{lf, grow, lines, until, first_line, joined, ended}
 
--- ---- up to a character, character by character
-
-module _ (stop : ℕ) (text : List ℕ) (i : ℕ) (h : i < length text) where
-  pub end_here : get_or text i 0 ≡ stop → length (until stop (drop i text)) ≡ 0
-  unfolding until
-  end_here e = rw (drop-cons text i 0 h, eq-eqb (get_or text i 0) stop e)
-
-  pub end_on : (get_or text i 0 ≡ stop → ⊥) → length (until stop (drop i text)) ≡ suc (length (until stop (drop (i + 1) text)))
-  unfolding until
-  end_on e = rw (drop-cons text i 0 h, ne_eqb (get_or text i 0) stop e, add-one)
-
-pub end_last : (stop : ℕ) (text : List ℕ) (i : ℕ) → length text ≤ i → length (until stop (drop i text)) ≡ 0
-unfolding until
-end_last stop text i h = rw (drop_of_length-le text h)
+-- ---- up to a character
 
 -- it is the text's front
 front_step : (b : Bool) (c : ℕ) (cs l : List ℕ) → l ≡ take (length l) cs → if b [] (c ∷ l) ≡ take (length (if b [] (c ∷ l))) (c ∷ cs)
@@ -51,6 +41,38 @@ until_within stop (c ∷ cs) = within_step (eqb c stop) c cs (until stop cs) (un
 pub until_inside : (stop : ℕ) (text : List ℕ) (i : ℕ) → i ≤ length text → i + length (until stop (drop i text)) ≤ length text
 until_inside stop text i h = omega (arith, until_within stop (drop i text), length-drop i text)
 
+-- it ends at the first such character, or with the text
+place_step : (b : Bool) (c : ℕ) (l : List ℕ) → length (if b [] (c ∷ l)) ≡ cond b 0 (1 + length l)
+place_step true c l = refl
+place_step false c l = omega arith
+
+until_place : (stop : ℕ) (t : List ℕ) → length (until stop t) ≡ position_or_len (λ c. c == stop) t
+unfolding until
+until_place stop t = is_position_or_len (λ t. length (until stop t)) (λ c. c == stop) refl (λ c cs. place_step (c == stop) c (until stop cs)) t
+
+found_step : (b : Bool) (i n : ℕ) → nat_lt i n ≡ b → i ≤ n → unwrap_or (cond b (Some i) None) n ≡ i
+found_step true i n e h = refl
+found_step false i n e h = let l : n ≤ i = ltb-false i n e in omega arith
+
+until_found : (stop : ℕ) (t : List ℕ) → unwrap_or (position (λ c. c == stop) t) (length t) ≡ length (until stop t)
+until_found stop t =
+    let e = until_place stop t in
+    let h : position_or_len (λ c. c == stop) t ≤ length t = rw (sym e) (until_within stop t) in
+    found_step (nat_lt (position_or_len (λ c. c == stop) t) (length t)) (position_or_len (λ c. c == stop) t) (length t) refl h ∙ sym e
+
+-- as the code looks for it, in the part from an index on
+pub found_from : (stop : ℕ) (text : List ℕ) (from : ℕ) (r : Option ℕ) (k : ℕ) → r ≡ position (λ c. c == stop) (take (length text - from) (drop from text))
+    → k ≡ unwrap_or r (length text - from) → from + k ≡ from + length (until stop (drop from text))
+found_from stop text from r k p q =
+    let t : List ℕ = drop from text in
+    let n : length t ≡ length text - from = length-drop from text in
+    let w : take (length text - from) t ≡ t = take_all (length text - from) t (omega arith) in
+    ap (λ (j : ℕ). from + j)
+    (q
+    ∙ ap (λ (o : Option ℕ). unwrap_or o (length text - from)) (p ∙ ap (position (λ c. c == stop)) w)
+    ∙ ap (unwrap_or (position (λ c. c == stop) t)) (sym n)
+    ∙ until_found stop t)
+
 -- ---- line by line
 
 pub first_front : (t : List ℕ) → first_line t ≡ take (length (first_line t)) t
@@ -70,20 +92,38 @@ unfolding lines until
 lines_first c [] = lines_step (eqb c lf) c [] refl
 lines_first c (d ∷ ds) = lines_step (eqb c lf) c (d ∷ ds) (rw (lines_first d ds))
 
--- the same of the text from a place on
-pub lines_on : (text : List ℕ) (i : ℕ) → i < length text
-    → lines (drop i text) ≡ first_line (drop i text) ∷ lines (drop (i + length (first_line (drop i text)) + 1) text)
-lines_on text i h =
-    let e = drop-cons text i 0 h in
-    let k : i + suc (length (first_line (drop i text))) ≡ i + length (first_line (drop i text)) + 1 = omega arith in
-    let p : lines (drop i text) ≡ first_line (drop i text) ∷ lines (drop (suc (length (first_line (drop i text)))) (drop i text)) =
-    rw e (lines_first (get_or text i 0) (drop (suc i) text)) in
-    p ∙ ap (λ (l : List ℕ). first_line (drop i text) ∷ lines l) (drop-drop (suc (length (first_line (drop i text)))) i text)
-    ∙ ap (λ (j : ℕ). first_line (drop i text) ∷ lines (drop j text)) k
+pub lines_next : (t : List ℕ) (n : ℕ) → n ≡ length (first_line t) → 0 < length t → lines t ≡ take n t ∷ lines (drop (n + 1) t)
+lines_next [] n e h = absurd (not-suc-le-zero h)
+lines_next (c ∷ cs) n e h =
+    let k : suc (length (first_line (c ∷ cs))) ≡ n + 1 = omega arith in
+    lines_first c cs
+    ∙ ap (λ (l : List ℕ). l ∷ lines (drop (suc (length (first_line (c ∷ cs)))) (c ∷ cs))) (first_front (c ∷ cs) ∙ ap (λ (j : ℕ). take j (c ∷ cs)) (sym e))
+    ∙ ap (λ (j : ℕ). take n (c ∷ cs) ∷ lines (drop j (c ∷ cs))) k
 
-pub lines_end : (text : List ℕ) (i : ℕ) → length text ≤ i → lines (drop i text) ≡ []
+pub lines_fewer : (t : List ℕ) (n : ℕ) → n ≡ length (first_line t) → 0 < length t → length (lines (drop (n + 1) t)) < length (lines t)
+lines_fewer t n e h = let k : length (lines t) ≡ suc (length (lines (drop (n + 1) t))) = ap length (lines_next t n e h) in omega arith
+
+pub lines_none : (t : List ℕ) → length t ≡ 0 → lines t ≡ []
 unfolding lines
-lines_end text i h = rw (drop_of_length-le text h)
+lines_none [] h = refl
+lines_none (c ∷ cs) h = absurd (omega arith)
+
+pub first_within : (t : List ℕ) → length (first_line t) ≤ length t
+first_within t = until_within lf t
+
+pub first_length : (t : List ℕ) (n : ℕ) → n ≡ length (first_line t) → n ≡ length (take n t)
+first_length t n e = sym (length-take-le n t (omega (arith, first_within t)))
+
+-- no more lines than characters
+most_step : (b : Bool) (c : ℕ) (ls : List (List ℕ)) → length (if b ([] ∷ ls) (grow c ls)) ≤ suc (length ls)
+most_step true c ls = omega arith
+most_step false c [] = omega arith
+most_step false c (l ∷ ls) = omega arith
+
+pub lines_most : (t : List ℕ) → length (lines t) ≤ length t
+unfolding lines
+lines_most [] = omega arith
+lines_most (c ∷ cs) = omega (arith, most_step (eqb c lf) c (lines cs), lines_most cs)
 
 -- ---- the text from its lines
 

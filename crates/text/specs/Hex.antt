@@ -1,5 +1,6 @@
 -- Lower-case hexadecimal (document 01, "The line program"): a digit and its character, and two digits a byte.
-use Rattle.std.specs.Prelude.{ℕ, ◌+◌, ◌-◌, ◌*◌, ◌/◌, ◌%◌, Bool, true, not, ◌&&◌, List, [], ◌∷◌, length, eqb, ltb, leb}
+use Rattle.std.specs.Prelude.{ℕ, ◌+◌, ◌-◌, ◌*◌, ◌/◌, ◌%◌, Bool, not, ◌&&◌, List, [], ◌∷◌, length, eqb, ltb, leb, Option, Some, None}
+use Rattle.std.specs.List.{list_all}
 use Rattle.cases.specs.Cases.{if}
 
 -- the character of a digit: 48 is `0`, 97 is `a`
@@ -16,9 +17,13 @@ digit_value c = if (is_between 48 57 c) (c - 48) (if (is_between 97 102 c) (c - 
 abbrev pub is_digit : ℕ → Bool
 is_digit c = not (eqb (digit_value c) 16)
 
-unfoldable pub all_digits : List ℕ → Bool
-all_digits [] = true
-all_digits (c ∷ cs) = is_digit c && all_digits cs
+-- the value of a digit, where the character is one
+abbrev pub digit_of : ℕ → Option ℕ
+digit_of c = if (is_digit c) (Some (digit_value c)) None
+
+-- each character is a digit
+abbrev pub all_digits : List ℕ → Bool
+all_digits text = list_all is_digit text
 
 -- an even count of characters, each a digit
 abbrev pub is_hex : List ℕ → Bool
@@ -32,6 +37,10 @@ unfoldable pub from_hex : List ℕ → List ℕ
 from_hex [] = []
 from_hex (a ∷ []) = []
 from_hex (a ∷ b ∷ rest) = hex_byte a b ∷ from_hex rest
+
+-- a byte's two digits
+abbrev pub byte_digits : ℕ → List ℕ
+byte_digits b = glyph (b / 16) ∷ glyph (b % 16) ∷ []
 
 unfoldable pub to_hex : List ℕ → List ℕ
 to_hex [] = []

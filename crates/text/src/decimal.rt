@@ -2,23 +2,22 @@
 ghost use Rattle.std.specs.Prelude.{◌≡◌, ◌+◌, ◌≤◌, length};
 ghost use Rattle.std.proofs.Math.Seq.{paste};
 ghost use Rattle.text.specs.Decimal.{decimal};
+ghost use Rattle.text.specs.Writing.{Written};
 
 use crate::digit;
+use crate::writer::Writer;
 
-// Writes the digits of n into `out` from place `at` on, the higher ones first, and answers the place behind them.
-#[tactic(auto, using(crate::proofs::Decimals::length_low, crate::proofs::Decimals::length_high, crate::proofs::Decimals::put_low, crate::proofs::Decimals::put_high))]
-fn put_digits(out: &mut [u8], at: usize, n: u32) -> usize
-    requires { at + length (decimal n) ≤ length out.old }
-    ensures out_after { out.new ≡ paste out.old at (decimal n) (length (decimal n)) }
-    ensures value { result ≡ at + length (decimal n) }
+// Writes the digits of n, the higher ones first.
+#[tactic(auto, using(crate::proofs::Decimals::decimal_low, crate::proofs::Decimals::decimal_high, crate::proofs::Decimals::length_low, crate::proofs::Decimals::length_high, crate::proofs::Writing::then))]
+pub(crate) fn digits(w: &mut Writer, n: u32)
+    requires { w.old.at + length (decimal n) ≤ length w.old.out.now }
+    ensures { Written w.old (decimal n) w.new }
 {
     if n < 10 {
-        out[at] = digit::glyph(n as u8);
-        return at + 1;
+        return w.byte(digit::glyph(n as u8));
     }
-    let k = put_digits(out, at, n / 10);
-    out[k] = digit::glyph((n % 10) as u8);
-    k + 1
+    digits(w, n / 10);
+    w.byte(digit::glyph((n % 10) as u8));
 }
 
 // Writes n into `out` from place `at` on, in the fewest decimal digits, and answers the place behind them. No other byte changes. There must be room
@@ -28,5 +27,7 @@ pub fn put(out: &mut [u8], at: usize, n: u32) -> usize
     ensures out_after { out.new ≡ paste out.old at (decimal n) (length (decimal n)) }
     ensures value { result ≡ at + length (decimal n) }
 {
-    put_digits(out, at, n)
+    let mut w = Writer::from(out, at);
+    w.number(n);
+    w.place()
 }

@@ -1,25 +1,25 @@
 // One digit and its character.
 ghost use Rattle.std.specs.Prelude.{◌≡◌, ◌<◌};
-ghost use Rattle.text.specs.Hex.{digit_value, glyph};
+ghost use Rattle.text.specs.Hex.{digit_of, is_digit, glyph};
 
-// The value of a lower-case hexadecimal digit, and 16 for another character.
+// The value of a lower-case hexadecimal digit; no other character is one.
 #[tactic(auto, unfolding(crate::specs::Hex::digit_value))]
-pub fn value(c: u8) -> u8
-    ensures { result ≡ digit_value c }
+pub fn value(c: u8) -> Option<u8>
+    ensures { result ≡ digit_of c }
 {
-    if c < b'0' {
-        return 16;
+    match c {
+        b'0'..=b'9' => Some(c - b'0'),
+        b'a'..=b'f' => Some(c - b'a' + 10),
+        _ => None,
     }
-    if c <= b'9' {
-        return c - b'0';
-    }
-    if c < b'a' {
-        return 16;
-    }
-    if c <= b'f' {
-        return c - b'a' + 10;
-    }
-    16
+}
+
+// Whether a character is a lower-case hexadecimal digit.
+#[tactic(auto, using(crate::proofs::Bytes::digit_found))]
+pub(crate) fn is_digit(c: u8) -> bool
+    ensures { result ≡ is_digit c }
+{
+    value(c).is_some()
 }
 
 // The lower-case hexadecimal character of a digit below 16.

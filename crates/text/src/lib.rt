@@ -5,3 +5,4 @@ pub mod decimal;
 pub mod digit;
 pub mod hex;
 pub mod line;
+pub mod writer;

@@ -1,5 +1,6 @@
--- One call at one end, whatever bytes come: where the record is well made under document 01's highest window, the call does the same under a higher
+-- Some call at one end, whatever bytes come: where the record is well made under document 01's highest window, the call does the same under a higher
 -- one, unless it is a take that gave 27 or 28. (Start knows no limits.)
+use Rattle.std.specs.Prelude.{None, Option, Some}
 use Prim.Native.Nat.{ℕ, ◌≤◌}
 use mathlib.Core.Path.{◌≡◌, refl, sym, ap, ap₂, ◌∙◌, subst}
 use mathlib.Core.Bool.{Bool, true}
@@ -7,8 +8,7 @@ use mathlib.Core.List.{List, ◌++◌}
 use lib.ListN.{length, take, drop}
 use Rattle.cases.specs.Cases.{Case, first, done}
 use Rattle.wire.specs.declared.header.Header.{Header}
-use Rattle.wire.specs.declared.kind.Flags.{Flags}
-use Rattle.wire.specs.declared.kind.Flags.TheVariants.{One, Wrong}
+use Rattle.wire.specs.declared.kind.Kind.{Kind}
 use Rattle.wire.specs.Packet.{read_header, flags_of}
 use Rattle.session.specs.Record.{window}
 use Rattle.effect.specs.declared.cell.Cell.{Cell}
@@ -112,9 +112,9 @@ module _ (lim : Limits) (low : window ≤ lim.window) (p : Party) (w : well_made
     same_kept cell.Free i = refl
     same_kept cell.Fault i = refl
 
-    same_storage : (f : Flags) → taken_storage lim f e h bytes storage ≡ taken_storage (narrow lim) f e h bytes storage
-    same_storage (One k) = same_kept (cell_of (session_of h.sid e.slots).state k) (slot_of h.sid e.slots)
-    same_storage Wrong = refl
+    same_storage : (f : Option Kind) → taken_storage lim f e h bytes storage ≡ taken_storage (narrow lim) f e h bytes storage
+    same_storage (Some k) = same_kept (cell_of (session_of h.sid e.slots).state k) (slot_of h.sid e.slots)
+    same_storage None = refl
 
     -- the answer and the storage from the number
     abbrev result : ℕ → List ℕ → Done

@@ -1,4 +1,5 @@
 -- Take's cases under two highest windows: where one test of a list is met less often, only that test's number can change.
+use Rattle.std.specs.Prelude.{None, Option, Some}
 use Prim.Native.Nat.{ℕ, ◌≤◌}
 use native.Mathlib.Omega.{arith}
 use mathlib.Core.Path.{◌≡◌, refl, sym, ap, ◌∙◌}
@@ -12,8 +13,6 @@ use Rattle.cases.proofs.Tests.{never, and_split, and_both}
 use Rattle.wire.specs.declared.header.Header.{Header}
 use Rattle.wire.specs.declared.kind.Kind.{Kind}
 use Rattle.wire.specs.declared.kind.Kind.TheVariants.{Syn, Ack, Fin, Data}
-use Rattle.wire.specs.declared.kind.Flags.{Flags}
-use Rattle.wire.specs.declared.kind.Flags.TheVariants.{One, Wrong}
 use Rattle.wire.specs.Packet.{header_cases}
 use Rattle.session.specs.declared.record.Session.{Session}
 use Rattle.session.specs.Counter.{minus}
@@ -84,7 +83,7 @@ module _ (lim : Limits) (low : window ≤ lim.window) where
     abbrev behind : List Case → List Case
     behind cs = take_cases true up short given ++ (header_cases lim.place h ++ (ltb given h.length ⇒ 10 ∷ cs))
 
-    abbrev number : Limits → Flags → ℕ
+    abbrev number : Limits → Option Kind → ℕ
     number l f = first (behind (kind_cases l f role held none x h))
 
     abbrev wndw : Limits → Bool
@@ -100,11 +99,11 @@ module _ (lim : Limits) (low : window ≤ lim.window) where
         (not (seqnum_in_range x k h.seqnum) ⇒ 29 ∷ [])
         (refused _ _ (wider_window (narrow lim).window lim.window four x h.wndw))
 
-    pub same_kind : (f : Flags) → Unwidened (number (narrow lim) f) → number lim f ≡ number (narrow lim) f
-    same_kind (One Syn) u =
+    pub same_kind : (f : Option Kind) → Unwidened (number (narrow lim) f) → number lim f ≡ number (narrow lim) f
+    same_kind (Some Syn) u =
         narrower (behind (is_client role ⇒ 24 ∷ held ⇒ 25 ∷ none ⇒ 26 ∷ [])) (not (fresh (narrow lim))) (not (fresh lim)) 27 []
         (refused _ _ (wider_syn (narrow lim).window lim.window four h.seqnum h.wndw)) u.syn
-    same_kind (One Ack) u = other Ack u.wndw
-    same_kind (One Fin) u = other Fin u.wndw
-    same_kind (One Data) u = other Data u.wndw
-    same_kind Wrong u = refl
+    same_kind (Some Ack) u = other Ack u.wndw
+    same_kind (Some Fin) u = other Fin u.wndw
+    same_kind (Some Data) u = other Data u.wndw
+    same_kind None u = refl

@@ -1,5 +1,1 @@
-pub mod Spelled
-pub mod Decimals
-pub mod States
-pub mod Placed
-pub mod Joined
+pub mod Numbers

@@ -1,97 +1,64 @@
 -- What the words behind a line's first have to be, for each line.
-use Rattle.std.specs.Prelude.{ℕ, zero, suc, ◌+◌, Bool, true, ◌&&◌, List, [], ◌∷◌, get_or, eqb, leb}
+use Rattle.std.specs.Prelude.{ℕ, ◌+◌, Bool, ◌&&◌, List, [], ◌∷◌, length, eqb, is_some, Option, Some, None, find, codes}
+use Rattle.std.specs.List.{list_all, enumerate_from}
+use Rattle.std.specs.Option.{option_map}
+use Rattle.std.specs.Str.{bytes_eq}
 use Rattle.cases.specs.Cases.{if}
-use Rattle.text.specs.Letters.{letters}
+use Rattle.words.specs.declared.forms.Ask.{Ask}
+use Rattle.words.specs.declared.forms.Ask.TheVariants.{Number, Bytes, Role}
 use Rattle.words.specs.declared.forms.Form.{Form}
-use Rattle.words.specs.declared.forms.Form.TheVariants.{Start, Open, Send, Read, Close, Shutdown, Take, Lend, Record, End, Show, Peek, Bad}
+use Rattle.words.specs.declared.forms.Form.TheVariants.{Start, Open, Send, Read, Close, Shutdown, Take, Lend, Record, End, Show, Peek}
 use Rattle.words.specs.Words.{short, counter, room_length, storage_length, peek_limit, last_slot, last_state}
-use Rattle.words.specs.Words.{spaces, word_of, number_at, are_numbers, alike, is_bytes, is_role}
+use Rattle.words.specs.Words.{spaces, word_of, spelled, within, is_bytes, is_role}
 
--- no word
-abbrev pub is_alone : List ℕ → Bool
-is_alone line = eqb (spaces line) 0
+-- what a line asks of its words behind the first, in their order
+abbrev pub asked : Form → List Ask
+asked Start = Role ∷ []
+asked Open = Number room_length ∷ []
+asked Send = Number short ∷ Bytes ∷ Number room_length ∷ []
+asked Read = Number short ∷ Number room_length ∷ Number room_length ∷ []
+asked Close = Number short ∷ Number room_length ∷ []
+asked Shutdown = []
+asked Take = Bytes ∷ []
+asked Lend = Number storage_length ∷ []
+asked Record =
+    Number last_slot ∷ Number last_state ∷ Number short ∷ Number counter ∷ Number counter ∷ Number counter ∷ Number counter ∷ Number counter
+    ∷ Number short ∷ Number short ∷ Number short ∷ Number short ∷ []
+asked End = Role ∷ Number 1 ∷ []
+asked Show = []
+asked Peek = Number storage_length ∷ Number peek_limit ∷ []
 
--- ROLE
-abbrev pub is_start : List ℕ → Bool
-is_start line = eqb (spaces line) 1 && is_role (word_of 1 line)
+-- a word is as asked
+abbrev pub meets : Ask → List ℕ → Bool
+meets (Number most) chars = is_some (within most (spelled chars))
+meets Bytes chars = is_bytes chars
+meets Role chars = is_role chars
 
--- ROOM
-abbrev pub is_open : List ℕ → Bool
-is_open line = are_numbers line (room_length ∷ [])
+-- each word behind the first is as asked in its place
+abbrev pub all_meet : List ℕ → List Ask → Bool
+all_meet line asks = list_all (λ (p : ℕ × Ask). meets p.1 (word_of (p.0 + 1) line)) (enumerate_from 0 asks)
 
--- SID BYTES ROOM
-abbrev pub is_send : List ℕ → Bool
-is_send line = eqb (spaces line) 3 && ((leb (number_at line 1) short && leb (number_at line 3) room_length) && is_bytes (word_of 2 line))
-
--- SID ROOM ACKROOM
-abbrev pub is_read : List ℕ → Bool
-is_read line = are_numbers line (short ∷ room_length ∷ room_length ∷ [])
-
--- SID ROOM
-abbrev pub is_close : List ℕ → Bool
-is_close line = are_numbers line (short ∷ room_length ∷ [])
-
--- BYTES
-abbrev pub is_take : List ℕ → Bool
-is_take line = eqb (spaces line) 1 && is_bytes (word_of 1 line)
-
--- N
-abbrev pub is_lend : List ℕ → Bool
-is_lend line = are_numbers line (storage_length ∷ [])
-
--- SLOT STATE SID S H R G L L0 L1 L2 L3
-abbrev pub is_record : List ℕ → Bool
-is_record line =
-    are_numbers line
-    (last_slot ∷ last_state ∷ short ∷ counter ∷ counter ∷ counter ∷ counter ∷ counter ∷ short ∷ short ∷ short ∷ short ∷ [])
-
--- ROLE UP
-abbrev pub is_end : List ℕ → Bool
-is_end line = eqb (spaces line) 2 && (is_role (word_of 1 line) && leb (number_at line 2) 1)
-
--- AT N
-abbrev pub is_peek : List ℕ → Bool
-is_peek line = are_numbers line (storage_length ∷ peek_limit ∷ [])
-
--- what each form asks
+-- the words behind the first are as many as asked, and each as asked
 abbrev pub is_right : List ℕ → Form → Bool
-is_right line Start = is_start line
-is_right line Open = is_open line
-is_right line Send = is_send line
-is_right line Read = is_read line
-is_right line Close = is_close line
-is_right line Shutdown = is_alone line
-is_right line Take = is_take line
-is_right line Lend = is_lend line
-is_right line Record = is_record line
-is_right line End = is_end line
-is_right line Show = is_alone line
-is_right line Peek = is_peek line
-is_right line Bad = true
+is_right line form = eqb (spaces line) (length (asked form)) && all_meet line (asked form)
 
 -- ---- names
 
--- the names in the order of the forms
-abbrev pub names : List ℕ
-names = letters "start open send read close shutdown take lend record end show peek"
+-- the names of the lines
+abbrev pub names : List (List ℕ × Form)
+names =
+    (codes "start", Start) ∷ (codes "open", Open) ∷ (codes "send", Send) ∷ (codes "read", Read) ∷ (codes "close", Close)
+    ∷ (codes "shutdown", Shutdown) ∷ (codes "take", Take) ∷ (codes "lend", Lend) ∷ (codes "record", Record) ∷ (codes "end", End)
+    ∷ (codes "show", Show) ∷ (codes "peek", Peek) ∷ []
 
--- where a name stands among so many of them, from a place on
-unfoldable pub place_from : ℕ → List ℕ → ℕ → ℕ
-place_from zero name i = i
-place_from (suc left) name i = if (alike name (word_of i names)) i (place_from left name (i + 1))
-
-abbrev pub place_of : List ℕ → ℕ
-place_of name = place_from 12 name 0
-
-abbrev pub forms : List Form
-forms = Start ∷ Open ∷ Send ∷ Read ∷ Close ∷ Shutdown ∷ Take ∷ Lend ∷ Record ∷ End ∷ Show ∷ Peek ∷ []
-
-abbrev pub form_at : ℕ → Form
-form_at k = get_or forms k Bad
+-- the form that a name names
+abbrev pub named : List ℕ → Option Form
+named name = option_map (λ (p : List ℕ × Form). p.1) (find (λ (p : List ℕ × Form). bytes_eq p.0 name) names)
 
 -- the form that the first word names, if the others are as it asks
-abbrev pub form_if : List ℕ → Form → Form
-form_if line form = if (is_right line form) form Bad
+abbrev pub right_or : List ℕ → Option Form → Option Form
+right_or line None = None
+right_or line (Some form) = if (is_right line form) (Some form) None
 
-abbrev pub form_of : List ℕ → Form
-form_of line = form_if line (form_at (place_of (word_of 0 line)))
+abbrev pub form_of : List ℕ → Option Form
+form_of line = right_or line (named (word_of 0 line))

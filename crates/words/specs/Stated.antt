@@ -2,7 +2,6 @@
 use Rattle.std.specs.Prelude.{ℕ, List, [], ◌∷◌, get_or}
 use Rattle.session.specs.declared.record.State.{State}
 use Rattle.session.specs.declared.record.Session.{Session}
-use Rattle.session.specs.Record.{record_of}
 use Rattle.words.specs.Words.{short, counter, last_state, value_of}
 
 -- the states in the order of their numbers
@@ -11,6 +10,13 @@ state_of n = get_or (State.Closed ∷ State.Established ∷ State.FinSent ∷ St
 
 abbrev pub stated_of : List ℕ → Session
 stated_of line =
-    record_of (state_of (value_of line 2 last_state)) (value_of line 3 short) (value_of line 4 counter) (value_of line 5 counter)
-    (value_of line 6 counter) (value_of line 7 counter) (value_of line 8 counter)
-    (value_of line 9 short ∷ value_of line 10 short ∷ value_of line 11 short ∷ value_of line 12 short ∷ [])
+    record {
+      state = state_of (value_of line 2 last_state);
+      sid = value_of line 3 short;
+      s = value_of line 4 counter;
+      h = value_of line 5 counter;
+      r = value_of line 6 counter;
+      g = value_of line 7 counter;
+      l = value_of line 8 counter;
+      lens = value_of line 9 short ∷ value_of line 10 short ∷ value_of line 11 short ∷ value_of line 12 short ∷ [];
+    }

@@ -1,48 +1,55 @@
 -- The words of a line and what they spell. Words are what stands between spaces: a leading, double or trailing space makes an empty word.
-use Rattle.std.specs.Prelude.{ℕ, zero, suc, ◌+◌, ◌-◌, ◌*◌, Bool, true, false, not, ◌&&◌, ◌||◌, List, [], ◌∷◌, length, eqb, ltb, leb}
+use Rattle.std.specs.Prelude.{ℕ, ◌+◌, ◌-◌, ◌*◌, Bool, not, ◌&&◌, ◌||◌, List, [], ◌∷◌, length, slice_get, count_by, eqb, ltb, leb}
+use Rattle.std.specs.Prelude.{Option, Some, None, unwrap_or, is_some, codes}
+use Rattle.std.specs.List.{slice_split}
+use Rattle.std.specs.Str.{bytes_eq}
 use Rattle.cases.specs.Cases.{if}
 use Rattle.table.specs.declared.end.Role.{Role}
 use Rattle.text.specs.Hex.{is_between, is_hex}
-use Rattle.text.specs.Lines.{until}
-use Rattle.text.specs.Letters.{letters}
 
 -- ---- words
 
-abbrev pub space : ℕ
-space = 32
+-- words stand between spaces
+abbrev pub is_space : ℕ → Bool
+is_space c = eqb c 32
 
-abbrev pub one_if_space : ℕ → ℕ
-one_if_space c = if (eqb c space) 1 0
-
-unfoldable pub spaces : List ℕ → ℕ
-spaces [] = 0
-spaces (c ∷ cs) = one_if_space c + spaces cs
-
--- the characters behind the k-th space
-unfoldable pub behind : List ℕ → ℕ → List ℕ
-behind [] k = []
-behind (c ∷ cs) zero = c ∷ cs
-behind (c ∷ cs) (suc k) = behind cs (suc k - one_if_space c)
+-- how many words follow the first
+abbrev pub spaces : List ℕ → ℕ
+spaces line = count_by is_space line
 
 -- word k, counted from 0; empty where there are fewer
 abbrev pub word_of : ℕ → List ℕ → List ℕ
-word_of k line = until space (behind line k)
+word_of k line = unwrap_or (slice_get (slice_split is_space line) k) []
 
 -- ---- numbers
+
+-- the number that decimal digits spell behind those that spell n
+unfoldable pub digits_from : ℕ → List ℕ → Option ℕ
+digits_from n [] = Some n
+digits_from n (c ∷ cs) = if (is_between 48 57 c) (digits_from (10 * n + (c - 48)) cs) None
+
+-- the number that one to ten digits spell
+abbrev pub spelled : List ℕ → Option ℕ
+spelled chars = if (eqb (length chars) 0 || ltb 10 (length chars)) None (digits_from 0 chars)
+
+-- the number that word k spells
+abbrev pub spelled_at : List ℕ → ℕ → Option ℕ
+spelled_at line k = spelled (word_of k line)
+
+-- a number, unless it is over the limit
+abbrev pub within : ℕ → Option ℕ → Option ℕ
+within most None = None
+within most (Some n) = if (leb n most) (Some n) None
 
 -- what a word that is no number counts as: it is over every limit
 abbrev pub no_number : ℕ
 no_number = 18446744073709551615
 
--- the number that decimal digits spell behind those that spell n
-unfoldable pub spelled_from : ℕ → List ℕ → ℕ
-spelled_from n [] = n
-spelled_from n (c ∷ cs) = if (is_between 48 57 c) (spelled_from (10 * n + (c - 48)) cs) no_number
-
--- the number that one to ten digits spell
+-- the number, where it has to be one
 abbrev pub number_of : List ℕ → ℕ
-number_of chars = if (eqb (length chars) 0 || ltb 10 (length chars)) no_number (spelled_from 0 chars)
+number_of chars = unwrap_or (spelled chars) no_number
 
+-- the same of word k
 abbrev pub number_at : List ℕ → ℕ → ℕ
 number_at line k = number_of (word_of k line)
 
@@ -50,32 +57,22 @@ number_at line k = number_of (word_of k line)
 abbrev pub value_of : List ℕ → ℕ → ℕ → ℕ
 value_of line k most = if (ltb most (number_at line k)) 0 (number_at line k)
 
--- the words from word k on, each a number at most its limit
-unfoldable pub fit : List ℕ → ℕ → List ℕ → Bool
-fit line k [] = true
-fit line k (m ∷ ms) = leb (number_at line k) m && fit line (k + 1) ms
-
--- the words behind the first are numbers, one for each limit and none over its own
-abbrev pub are_numbers : List ℕ → List ℕ → Bool
-are_numbers line most = eqb (spaces line) (length most) && fit line 1 most
-
 -- ---- bytes and roles
-
-unfoldable pub alike : List ℕ → List ℕ → Bool
-alike [] [] = true
-alike [] (b ∷ bs) = false
-alike (a ∷ as') [] = false
-alike (a ∷ as') (b ∷ bs) = eqb a b && alike as' bs
 
 -- lower-case hexadecimal, or `-` for none
 abbrev pub is_bytes : List ℕ → Bool
-is_bytes chars = not (eqb (length chars) 0) && (alike chars (letters "-") || is_hex chars)
+is_bytes chars = not (eqb (length chars) 0) && (bytes_eq chars (codes "-") || is_hex chars)
+
+-- the role of that name
+abbrev pub role_in : List ℕ → Option Role
+role_in chars = if (bytes_eq (codes "client") chars) (Some Role.Client) (if (bytes_eq (codes "server") chars) (Some Role.Server) None)
 
 abbrev pub is_role : List ℕ → Bool
-is_role chars = alike chars (letters "client") || alike chars (letters "server")
+is_role chars = is_some (role_in chars)
 
+-- the same, and the client's where there is none
 abbrev pub role_of : List ℕ → Role
-role_of chars = if (alike chars (letters "server")) Role.Server Role.Client
+role_of chars = unwrap_or (role_in chars) Role.Client
 
 -- ---- the largest numbers
 

@@ -1,14 +1,12 @@
 // Which line it is: its first word names it, and the words behind have to be as that name asks.
 ghost use Rattle.std.specs.Prelude.{◌≡◌};
-ghost use Rattle.words.specs.Forms.{is_alone, is_start, is_open, is_send, is_read, is_close, is_take};
-ghost use Rattle.words.specs.Forms.{is_lend, is_record, is_end, is_peek, is_right, place_of, form_at, form_of};
+ghost use Rattle.words.specs.Forms.{asked, meets, all_meet, is_right, named, form_of};
 ghost use Rattle.words.specs.Words.{word_of};
 
-use crate::{after_first, is, is_bytes, is_role, limits, number_at, numbers, word};
-use cases::both;
+use crate::{after_first, is_bytes, limits, number, role, word};
 
-// The lines by their names, and one that calls nothing.
-#[derive(Clone, Copy)]
+// The lines by their names.
+#[derive(Clone, Copy, Debug, PartialEq, Eq)]
 pub enum Form {
     Start,
     Open,
@@ -22,179 +20,117 @@ pub enum Form {
     End,
     Show,
     Peek,
-    Bad,
 }
 
-// What each line asks of the words behind its name. No word.
-fn is_alone(line: &[u8]) -> bool
-    ensures { result ≡ is_alone line.now }
-{
-    after_first(line) == 0
+// What a line asks of a word: a number up to a limit, bytes, or a role.
+#[derive(Clone, Copy)]
+enum Ask {
+    Number(u64),
+    Bytes,
+    Role,
 }
 
-// ROLE
-fn is_start(line: &[u8]) -> bool
-    ensures { result ≡ is_start line.now }
-{
-    both(after_first(line) == 1, is_role(word(line, 1)))
-}
+const SHORT: Ask = Ask::Number(limits::SHORT);
 
-// ROOM
-fn is_open(line: &[u8]) -> bool
-    ensures { result ≡ is_open line.now }
-{
-    numbers(line, &[limits::ROOM])
-}
+const COUNTER: Ask = Ask::Number(limits::COUNTER);
 
-// SID BYTES ROOM
-fn is_send(line: &[u8]) -> bool
-    ensures { result ≡ is_send line.now }
-{
-    let has_numbers = both(
-        number_at(line, 1) <= limits::SHORT,
-        number_at(line, 3) <= limits::ROOM,
-    );
-    let has_bytes = is_bytes(word(line, 2));
-    both(after_first(line) == 3, both(has_numbers, has_bytes))
-}
+const ROOM: Ask = Ask::Number(limits::ROOM);
 
-// SID ROOM ACKROOM
-fn is_read(line: &[u8]) -> bool
-    ensures { result ≡ is_read line.now }
-{
-    numbers(line, &[limits::SHORT, limits::ROOM, limits::ROOM])
-}
-
-// SID ROOM
-fn is_close(line: &[u8]) -> bool
-    ensures { result ≡ is_close line.now }
-{
-    numbers(line, &[limits::SHORT, limits::ROOM])
-}
-
-// BYTES
-fn is_take(line: &[u8]) -> bool
-    ensures { result ≡ is_take line.now }
-{
-    both(after_first(line) == 1, is_bytes(word(line, 1)))
-}
-
-// N
-fn is_lend(line: &[u8]) -> bool
-    ensures { result ≡ is_lend line.now }
-{
-    numbers(line, &[limits::STORAGE])
-}
+const STORAGE: Ask = Ask::Number(limits::STORAGE);
 
 // SLOT STATE SID S H R G L L0 L1 L2 L3
-fn is_record(line: &[u8]) -> bool
-    ensures { result ≡ is_record line.now }
-{
-    let most = [
-        limits::SLOT,
-        limits::STATE,
-        limits::SHORT,
-        limits::COUNTER,
-        limits::COUNTER,
-        limits::COUNTER,
-        limits::COUNTER,
-        limits::COUNTER,
-        limits::SHORT,
-        limits::SHORT,
-        limits::SHORT,
-        limits::SHORT,
-    ];
-    numbers(line, &most)
-}
+const RECORD: [Ask; 12] = [
+    Ask::Number(limits::SLOT),
+    Ask::Number(limits::STATE),
+    SHORT,
+    COUNTER,
+    COUNTER,
+    COUNTER,
+    COUNTER,
+    COUNTER,
+    SHORT,
+    SHORT,
+    SHORT,
+    SHORT,
+];
 
-// ROLE UP
-fn is_end(line: &[u8]) -> bool
-    ensures { result ≡ is_end line.now }
-{
-    let has_role = is_role(word(line, 1));
-    both(
-        after_first(line) == 2,
-        both(has_role, number_at(line, 2) <= 1),
-    )
-}
-
-// AT N
-fn is_peek(line: &[u8]) -> bool
-    ensures { result ≡ is_peek line.now }
-{
-    numbers(line, &[limits::STORAGE, limits::PEEK])
-}
-
-const NAMES: usize = 12;
-
-// The place of a line's first word among the names, in the order of Form; past the last for another word.
-fn place(line: &[u8]) -> usize
-    ensures { result ≡ place_of (word_of 0 line.now) }
-{
-    let names = b"start open send read close shutdown take lend record end show peek";
-    let name = word(line, 0);
-    let mut i = 0;
-    while i < NAMES {
-        if is(name, word(names, i)) {
-            return i;
+impl Form {
+    // What the line asks of the words behind its name, in their order.
+    fn asked(self) -> &'static [Ask]
+        ensures { result.now ≡ asked self }
+    {
+        match self {
+            Form::Start => &[Ask::Role],
+            Form::Open => &[ROOM],
+            Form::Send => &[SHORT, Ask::Bytes, ROOM],
+            Form::Read => &[SHORT, ROOM, ROOM],
+            Form::Close => &[SHORT, ROOM],
+            Form::Take => &[Ask::Bytes],
+            Form::Lend => &[STORAGE],
+            Form::Record => &RECORD,
+            Form::End => &[Ask::Role, Ask::Number(1)],
+            Form::Peek => &[STORAGE, Ask::Number(limits::PEEK)],
+            Form::Shutdown | Form::Show => &[],
         }
-        i += 1;
     }
-    i
 }
 
-// The form at a place.
-fn at(place: usize) -> Form
-    ensures { result ≡ form_at place }
+impl Ask {
+    // Whether a word is as asked.
+    fn met(self, chars: &[u8]) -> bool
+        ensures { result ≡ meets self chars.now }
+    {
+        match self {
+            Ask::Number(most) => number(chars).is_some_and(|n| n <= most),
+            Ask::Bytes => is_bytes(chars),
+            Ask::Role => role(chars).is_some(),
+        }
+    }
+}
+
+// Whether each word behind the first is as asked in its place.
+fn all_met(line: &[u8], asked: &[Ask]) -> bool
+    ensures { result ≡ all_meet line.now asked.now }
 {
-    let forms = [
-        Form::Start,
-        Form::Open,
-        Form::Send,
-        Form::Read,
-        Form::Close,
-        Form::Shutdown,
-        Form::Take,
-        Form::Lend,
-        Form::Record,
-        Form::End,
-        Form::Show,
-        Form::Peek,
-    ];
-    if place < NAMES {
-        return forms[place];
-    }
-    Form::Bad
+    asked
+        .iter()
+        .enumerate()
+        .all(|(i, ask)| ask.met(word(line, i + 1)))
 }
 
-// The words behind the first are as that name asks.
+// Whether the words behind the first are as many and as the form asks.
 fn is_right(line: &[u8], form: Form) -> bool
     ensures { result ≡ is_right line.now form }
 {
-    match form {
-        Form::Start => is_start(line),
-        Form::Open => is_open(line),
-        Form::Send => is_send(line),
-        Form::Read => is_read(line),
-        Form::Close => is_close(line),
-        Form::Shutdown => is_alone(line),
-        Form::Take => is_take(line),
-        Form::Lend => is_lend(line),
-        Form::Record => is_record(line),
-        Form::End => is_end(line),
-        Form::Show => is_alone(line),
-        Form::Peek => is_peek(line),
-        Form::Bad => true,
+    let asked = form.asked();
+    after_first(line) == asked.len() && all_met(line, asked)
+}
+
+// The form that a first word names.
+#[tactic(auto, using(std::proofs::lemmas::Slice::Eq::text_from_reads))]
+fn named(name: &[u8]) -> Option<Form>
+    ensures { result ≡ named name.now }
+{
+    match name {
+        b"start" => Some(Form::Start),
+        b"open" => Some(Form::Open),
+        b"send" => Some(Form::Send),
+        b"read" => Some(Form::Read),
+        b"close" => Some(Form::Close),
+        b"shutdown" => Some(Form::Shutdown),
+        b"take" => Some(Form::Take),
+        b"lend" => Some(Form::Lend),
+        b"record" => Some(Form::Record),
+        b"end" => Some(Form::End),
+        b"show" => Some(Form::Show),
+        b"peek" => Some(Form::Peek),
+        _ => None,
     }
 }
 
-// The form that the line's first word names, if the words behind it are as many and as that name asks; else `Bad`. The line is only read.
-pub fn form_of(line: &[u8]) -> Form
+// The form that the line's first word names, if the words behind it are as many and as that name asks. The line is only read.
+pub fn form_of(line: &[u8]) -> Option<Form>
     ensures { result ≡ form_of line.now }
 {
-    let form = at(place(line));
-    if !is_right(line, form) {
-        return Form::Bad;
-    }
-    form
+    named(word(line, 0)).filter(|form| is_right(line, *form))
 }

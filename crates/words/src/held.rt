@@ -1,39 +1,73 @@
 // The line that isn't ended yet: the characters of it that came so far.
-ghost use Rattle.std.specs.Prelude.{◌≡◌, length};
-ghost use Rattle.buffer.specs.Onto.{Front};
-ghost use Rattle.words.specs.Held.{held_with, line_with, count_of};
+ghost use Rattle.std.specs.Prelude.{◌≡◌, [], Some, unwrap_or};
+ghost use Rattle.words.specs.Held.{joined, is_empty};
+
+use std::marker::Model;
 
 pub const LONGEST: usize = 16384;
 
-pub type Line = [u8; LONGEST];
-
-// What the length of a line counts as that is longer.
-const TOO_LONG: usize = 18446744073709551615;
-
-// Puts some more characters of a line behind those that are held, and answers the line's length. Where it would be too long the answer is over every
-// limit, and no character changes.
-pub fn join(line: &mut Line, held: usize, part: &[u8]) -> usize
-    ensures value { result ≡ held_with held (length part.now) }
-    ensures line_after { line.new ≡ line_with line.old held part.now }
-{
-    if LONGEST < held {
-        return TOO_LONG;
-    }
-    if LONGEST - held < part.len() {
-        return TOO_LONG;
-    }
-    buffer::copy_in(line, held, part);
-    held + part.len()
+// The characters, and how many of the array count; `None` where the line is too long.
+#[derive(Drop)]
+pub struct Held {
+    bytes: [u8; LONGEST],
+    length: Option<usize>,
 }
 
-// Answers n, how many characters of a line count, where the array `line` has so many; else 0, so that a line that is too long is `bad`, as an empty
-// one is. The characters aren't looked at.
-pub fn counted(n: usize, line: &[u8]) -> usize
-    ensures front { Front result line.now }
-    ensures value { result ≡ count_of n (length line.now) }
-{
-    if line.len() < n {
-        return 0;
+impl Model for Held {
+    ghost use Rattle.std.specs.Prelude.{ℕ, ◌≤◌, List, Option, IfSome, option_map, take};
+    ghost use Rattle.words.specs.Held.{longest_line};
+
+    ghost Value = { Option (List ℕ) };
+
+    ghost view = { λ h. option_map (λ n. take n h.bytes) h.length };
+
+    ghost invariant = { λ h. IfSome h.length (λ n. n ≤ longest_line) };
+}
+
+impl Held {
+    // No character yet.
+    pub fn new() -> Held
+        ensures { result ≡ Some [] }
+    {
+        Held {
+            bytes: [0; LONGEST],
+            length: Some(0),
+        }
     }
-    n
+
+    // Puts some more characters of the line behind those that are held. Where it gets too long, nothing of it is held any more.
+    pub fn join(&mut self, part: &[u8])
+        ensures { self.new ≡ joined self.old part.now }
+    {
+        let Some(n) = self.length else {
+            return;
+        };
+        if LONGEST - n < part.len() {
+            self.length = None;
+            return;
+        }
+        self.bytes[n..n + part.len()].copy_from_slice(part);
+        self.length = Some(n + part.len());
+    }
+
+    // The characters that are held; none where the line is too long, so that it is `bad`, as an empty one is.
+    pub fn line(&self) -> &[u8]
+        ensures { result.now ≡ unwrap_or self.now [] }
+    {
+        &self.bytes[..self.length.unwrap_or(0)]
+    }
+
+    // Whether no character came. A line that is too long isn't empty.
+    pub fn is_empty(&self) -> bool
+        ensures { result ≡ is_empty self.now }
+    {
+        self.length == Some(0)
+    }
+
+    // The line ended: the next begins.
+    pub fn clear(&mut self)
+        ensures { self.new ≡ Some [] }
+    {
+        self.length = Some(0);
+    }
 }

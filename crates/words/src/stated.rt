@@ -10,30 +10,29 @@ use session::record::{Session, State};
 pub fn slot(line: &[u8]) -> usize
     ensures { result ≡ value_of line.now 1 last_slot }
 {
-    value(line, 1, limits::SLOT) as usize
+    value(line, 1, limits::SLOT).unwrap_or(0) as usize
 }
 
-// The record that a `record` line states in words 2 to 11: state, SID, S, H, R, G and the four lengths. A word that is no number in its limit counts
-// as 0. The record need not be in order.
+// The record that a `record` line states in words 2 to 12: state, SID, S, H, R, G, L and the four lengths. A word that is no number in its limit
+// counts as 0. The record need not be in order.
 pub fn session(line: &[u8]) -> Session
     ensures { result ≡ stated_of line.now }
 {
-    let lens = [
-        short(line, 9),
-        short(line, 10),
-        short(line, 11),
-        short(line, 12),
-    ];
-    Session::of(
-        state(value(line, 2, limits::STATE)),
-        short(line, 3),
-        counter(line, 4),
-        counter(line, 5),
-        counter(line, 6),
-        counter(line, 7),
-        counter(line, 8),
-        lens,
-    )
+    Session {
+        state: state(value(line, 2, limits::STATE).unwrap_or(0)),
+        sid: short(line, 3).unwrap_or(0),
+        s: counter(line, 4).unwrap_or(0),
+        h: counter(line, 5).unwrap_or(0),
+        r: counter(line, 6).unwrap_or(0),
+        g: counter(line, 7).unwrap_or(0),
+        l: counter(line, 8).unwrap_or(0),
+        lens: [
+            short(line, 9).unwrap_or(0),
+            short(line, 10).unwrap_or(0),
+            short(line, 11).unwrap_or(0),
+            short(line, 12).unwrap_or(0),
+        ],
+    }
 }
 
 fn state(n: u64) -> State

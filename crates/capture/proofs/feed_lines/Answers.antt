@@ -1,36 +1,31 @@
 -- A turn tells of one line more; behind the last one comes the end's own line.
-use Rattle.std.proofs.Common.{◌≡◌, ℕ, length, subst, arith}
+use Rattle.std.proofs.Common.{◌≡◌, ◌∙◌, ap, rules}
 use Rattle.buffer.specs.Onto.{onto}
-use Rattle.buffer.specs.Wrote.{Wrote}
 use Rattle.text.specs.Lines.{lines}
-use Rattle.text.proofs.Lines.{end_within}
-use Rattle.table.specs.declared.end.End.{End}
-use Rattle.report.specs.Rows.{end_row}
-use Rattle.capture.specs.Feed.{report}
-use Rattle.capture.proofs.Reports.{go_on, go_last}
+use Rattle.capture.proofs.Reports.{reported, go_first, go_on, go_last}
 use Rattle.capture.proofs.feed_lines.Goals as goal
 
-pub slice_bounds-one_line-end : goal.slice_bounds-one_line-end
-slice_bounds-one_line-end c = omega (arith, c.end_of-stop.ensures, end_within c.args.text.now c.loop-from.from (omega arith))
+pub loop-i-init : goal.loop-i-init
+loop-i-init c =
+    let i = c.into_iter-i-iterator.result in
+    let z : i.count ≡ 0 = search rules in
+    let m : lines i.iter.rest.now ≡ lines c.args.text.now = search rules in
+    go_first c.args.text.now c.requires c.from-w.ensures.place c.start-e.ensures z m
 
-pub loop-from-preserved : goal.loop-from-preserved
-loop-from-preserved c =
-    let k = c.line_row-at in
-    go_on c.loop-from.invariant c.loop-from-test.true c.end_of-stop.result c.one_line-f.result k.new.out k.result
-    c.end_of-stop.ensures c.one_line-f.ensures.value (k.ensures.wrote, k.ensures.l_len_bound)
+pub loop-i-preserved : goal.loop-i-preserved
+loop-i-preserved c =
+    let l = c.one_line-l.ensures in
+    let r = c.line_row.ensures in
+    let s = c.in-Some.ensures.steps in
+    go_on c.loop-i.invariant s.0 s.1 s.2 l.told l.end_after r.wrote r.l_len_bound
 
 pub returns-clause-out_after : goal.returns-clause-out_after
 returns-clause-out_after c =
-    let l = c.loop-from in
-    let k = c.last_row in
-    let w = subst (λ (n : ℕ). Wrote l.out l.at (end_row l.e.up n) k.new.out k.result) c.held.ensures k.ensures.wrote in
-    subst (λ (e : End). k.new.out ≡ onto (report 1 e (lines c.args.text.now)) c.args.out.now) c.start-e.ensures
-    (go_last l.invariant c.loop-from-test.false k.new.out k.result w).0
+    let s = c.in-None.ensures.steps in
+    (go_last c.loop-i.invariant s.0.0 c.from-w.ensures.place c.held.ensures c.last_row.ensures.wrote).0
+    ∙ ap (onto (reported c.args.text.now)) c.from-w.ensures.bytes
 
 pub returns-clause-value : goal.returns-clause-value
 returns-clause-value c =
-    let l = c.loop-from in
-    let k = c.last_row in
-    let w = subst (λ (n : ℕ). Wrote l.out l.at (end_row l.e.up n) k.new.out k.result) c.held.ensures k.ensures.wrote in
-    subst (λ (e : End). k.result ≡ length (report 1 e (lines c.args.text.now))) c.start-e.ensures
-    (go_last l.invariant c.loop-from-test.false k.new.out k.result w).1
+    let s = c.in-None.ensures.steps in
+    c.place.ensures ∙ (go_last c.loop-i.invariant s.0.0 c.from-w.ensures.place c.held.ensures c.last_row.ensures.wrote).1

@@ -1,27 +1,21 @@
--- What was seen and found, handed to the law for a refusal, or for a close that is done.
-use Rattle.close.proofs.Emitted.{close_counts}
-use Rattle.close.proofs.Closing.{close_refused_lem, close_room_lem, close_done_lem}
+-- What was found and asked, handed to the law for a refusal, or for a close that is done.
+use Rattle.std.proofs.Common.{rules}
+use Rattle.close.proofs.Closing.{unfound, unclosed, closed}
 use Rattle.close.proofs.close.Goals as goal
 
-pub returns-then-n-ne-DONE-clause-close_promise : goal.returns-then-n-ne-DONE-clause-close_promise
-returns-then-n-ne-DONE-clause-close_promise c =
+pub returns-in_err-found-clause-close_promise : goal.returns-in_err-found-clause-close_promise
+returns-in_err-found-clause-close_promise c =
     let a = c.args in
-    close_refused_lem a.e a.sid a.packet.now c.scan-l.ensures c.close_number-n.ensures c.refused.ensures c.if-n-ne-DONE.true
+    unfound a.e.now a.sid a.packet.now c.from_residual.result c.from_residual.ensures.0 (search rules)
 
-pub header-requires : goal.header-requires
-header-requires c =
+pub returns-in_err-may_close-clause-close_promise : goal.returns-in_err-may_close-clause-close_promise
+returns-in_err-may_close-clause-close_promise c =
     let a = c.args in
-    close_room_lem a.e a.sid a.packet.now c.scan-l.ensures c.close_number-n.ensures c.if-n-ne-DONE.false
+    unclosed a.e.now a.sid a.packet.now c.in_ok-found.ensures.found c.in_ok-found.ensures.number c.from_residual-in_err-may_close.result
+    c.from_residual-in_err-may_close.ensures.0 (search rules)
 
 pub returns-clause-close_promise : goal.returns-clause-close_promise
 returns-clause-close_promise c =
     let a = c.args in
-    close_done_lem a.e a.sid a.packet.now c.scan-l.ensures c.close_number-n.ensures c.if-n-ne-DONE.false c.fin_header.ensures c.closed.ensures
-    c.put.ensures c.done.ensures c.header.ensures
-
-pub returns-clause-front : goal.returns-clause-front
-returns-clause-front c =
-    let a = c.args in
-    close_counts
-    (close_done_lem a.e a.sid a.packet.now c.scan-l.ensures c.close_number-n.ensures c.if-n-ne-DONE.false c.fin_header.ensures c.closed.ensures
-    c.put.ensures c.done.ensures c.header.ensures)
+    closed a.e.now a.sid a.packet.now c.in_ok-found.ensures.found c.in_ok-found.ensures.number c.in_ok-may_close.ensures c.fin_header.ensures c.closed.ensures
+    c.put.ensures c.header.ensures

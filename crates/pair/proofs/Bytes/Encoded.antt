@@ -1,4 +1,5 @@
 -- A lane's packet as the bytes that stand for it in a channel, under a SID; and a SYN. Each is one packet, as take reads it back.
+use Rattle.std.specs.Prelude.{Some}
 use Prim.Native.Nat.{ℕ, ◌+◌, ◌%◌, ◌^◌, ◌≤◌, ◌<◌}
 use native.Mathlib.Omega.{arith}
 use mathlib.Core.Path.{◌≡◌, refl, sym}
@@ -12,7 +13,6 @@ use Rattle.cases.proofs.Tests.{and_both}
 use Rattle.wire.specs.declared.header.Header.{Header}
 use Rattle.wire.specs.declared.kind.Kind.{Kind}
 use Rattle.wire.specs.declared.kind.Kind.TheVariants.{Syn, Ack, Fin, Data}
-use Rattle.wire.specs.declared.kind.Flags.TheVariants.{One}
 use Rattle.wire.specs.Packet.{header_length, header_of, header_bytes, packet_bytes, length_fits, flags_value}
 use Rattle.wire.proofs.Headers.{header_length_lem, packet_length_lem}
 use Rattle.wire.proofs.Whole.{Whole, header_whole}
@@ -72,7 +72,7 @@ module _ (place : ℕ) (small : header_length + place < 2 ^ 32) (sid : ℕ) (low
   packet_whole p l =
       header_whole place small (kind_of p) sid (payload_of p) (seqnum_of p % 2 ^ 32) (wndw_of p % 2 ^ 32) low l (omega arith) (omega arith) (fits p l)
     where
-      fits : (p : Packet) → length (payload_of p) ≤ place → length_fits place (One (kind_of p)) (header_length + length (payload_of p)) ≡ true
+      fits : (p : Packet) → length (payload_of p) ≤ place → length_fits place (Some (kind_of p)) (header_length + length (payload_of p)) ≡ true
       fits (dat q v b) l =
           and_both (leb 16 (16 + length b)) (leb (16 + length b) (16 + place)) (le-leb 16 (16 + length b) (omega arith))
           (le-leb (16 + length b) (16 + place) (omega arith))

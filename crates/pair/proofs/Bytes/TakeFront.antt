@@ -1,5 +1,6 @@
 -- What take makes of a front part of a channel: nothing there, or a packet cut short, gives 9 or 10 and changes nothing; a whole packet
--- meets its own cases, whatever follows it. One law for every packet, then for a lane's packet and for a SYN.
+-- meets its own cases, whatever follows it. Some law for every packet, then for a lane's packet and for a SYN.
+use Rattle.std.specs.Prelude.{Some}
 use Prim.Native.Nat.{ℕ, ◌+◌, ◌^◌, ◌≤◌, ◌<◌, ◌-◌}
 use native.Mathlib.Omega.{arith}
 use native.Mathlib.Decide.{dec_lt}
@@ -12,7 +13,6 @@ use Rattle.cases.specs.Cases.{if, first}
 use Rattle.wire.specs.declared.header.Header.{Header}
 use Rattle.wire.specs.declared.kind.Kind.{Kind}
 use Rattle.wire.specs.declared.kind.Kind.TheVariants.{Syn}
-use Rattle.wire.specs.declared.kind.Flags.TheVariants.{One}
 use Rattle.wire.specs.Packet.{header_length, read_header, packet_bytes}
 use Rattle.wire.proofs.Whole.{Whole, whole_flags, front_header, cut_length, whole_there, payload_front, whole_front}
 use Rattle.session.specs.declared.record.Session.{Session}
@@ -102,16 +102,16 @@ module _ (lim : Limits) (e : End) (g : well_made lim e ≡ true) (u : e.up ≡ t
       is = front_header w rest n (omega (arith, w.sound.low))
 
       whole_number : (st : ℕ) → take_number lim e (take n (packet_bytes h v ++ rest)) st
-          ≡ if (short_storage lim e st) 9 (first (kind_cases lim (One k) e.role (holds h.sid e.slots) (full e.slots)
+          ≡ if (short_storage lim e st) 9 (first (kind_cases lim (Some k) e.role (holds h.sid e.slots) (full e.slots)
           (session_of h.sid e.slots) h))
       whole_number st = number_whole lim e g u bytes st h k is w.sound (whole_there w rest n l)
 
       whole_answer : (st : ℕ) → take_number lim e (take n (packet_bytes h v ++ rest)) st ≡ 0
-          → take_of lim e (take n (packet_bytes h v ++ rest)) st ≡ take_done h (taken_end (One k) h e)
+          → take_of lim e (take n (packet_bytes h v ++ rest)) st ≡ take_done h (taken_end (Some k) h e)
       whole_answer st z = answer_done lim e bytes h k is (whole_flags w) st z
 
       whole_storage : (lent : List ℕ) → take_number lim e (take n (packet_bytes h v ++ rest)) (length lent) ≡ 0
-          → take_storage lim e (take n (packet_bytes h v ++ rest)) lent ≡ taken_storage lim (One k) e h (packet_bytes h v) lent
+          → take_storage lim e (take n (packet_bytes h v ++ rest)) lent ≡ taken_storage lim (Some k) e h (packet_bytes h v) lent
       whole_storage lent z =
           storage_done lim e bytes h k is (whole_flags w) lent z
           ∙ kept_front w lim (slot_of h.sid e.slots) lent (cell_of (session_of h.sid e.slots).state k) rest n l
@@ -119,12 +119,12 @@ module _ (lim : Limits) (e : End) (g : well_made lim e ≡ true) (u : e.up ≡ t
 -- ---- a lane's packet: no SYN
 
 other_kind : (lim : Limits) (p : Packet) (role : Role) (held none : Bool) (x : Session) (h : Header)
-    → first (kind_cases lim (One (kind_of p)) role held none x h) ≡ first (other_cases lim (kind_of p) held x h)
+    → first (kind_cases lim (Some (kind_of p)) role held none x h) ≡ first (other_cases lim (kind_of p) held x h)
 other_kind lim (dat q v b) role held none x h = refl
 other_kind lim (ack q v) role held none x h = refl
 other_kind lim (fin q v) role held none x h = refl
 
-other_end : (p : Packet) (h : Header) (e : End) → taken_end (One (kind_of p)) h e ≡ changed_of h.sid (taken_on (kind_of p) h) e
+other_end : (p : Packet) (h : Header) (e : End) → taken_end (Some (kind_of p)) h e ≡ changed_of h.sid (taken_on (kind_of p) h) e
 other_end (dat q v b) h e = refl
 other_end (ack q v) h e = refl
 other_end (fin q v) h e = refl

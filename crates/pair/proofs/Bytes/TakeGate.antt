@@ -1,5 +1,6 @@
 -- Take's number for any bytes given, at an end that is well made and up: what comes before the packet's own cases (9, 10, 20 to 22, 10 again).
 -- And its answer and the storage from that number.
+use Rattle.std.specs.Prelude.{Some}
 use Prim.Native.Nat.{ℕ, ◌≤◌, ◌<◌}
 use native.Mathlib.Omega.{arith}
 use mathlib.Core.Path.{◌≡◌, refl, ap, ◌∙◌}
@@ -12,7 +13,6 @@ use Rattle.cases.specs.Cases.{◌⇒◌, if, first}
 use Rattle.cases.proofs.First.{done_0, done_not, numbered, first_append}
 use Rattle.wire.specs.declared.header.Header.{Header}
 use Rattle.wire.specs.declared.kind.Kind.{Kind}
-use Rattle.wire.specs.declared.kind.Flags.TheVariants.{One}
 use Rattle.wire.specs.Packet.{header_length, read_header, flags_of, SoundHeader, header_cases, header_number}
 use Rattle.wire.proofs.Flags.{flags_named}
 use Rattle.wire.proofs.Shapes.{is_0}
@@ -30,10 +30,10 @@ use Rattle.take.specs.Take.{taken_end, take_done, take_refused, take_of, taken_s
 
 -- a header without fault
 sound_cases : (lim : Limits) (k : Kind) (role : Role) (held none : Bool) (x : Session) (h : Header) (given : ℕ) → SoundHeader lim.place h k
-    → first (packet_cases lim role held none x h given) ≡ if (ltb given h.length) 10 (first (kind_cases lim (One k) role held none x h))
+    → first (packet_cases lim role held none x h given) ≡ if (ltb given h.length) 10 (first (kind_cases lim (Some k) role held none x h))
 unfolding header_number numbered first
 sound_cases lim k role held none x h given s =
-    let f : flags_of h.flags ≡ One k = flags_named h.flags k s.flags in
+    let f : flags_of h.flags ≡ Some k = flags_named h.flags k s.flags in
     let after = ltb given h.length ⇒ 10 ∷ kind_cases lim (flags_of h.flags) role held none x h in
     first_append (header_cases lim.place h) after refl
     ∙ done_0 (header_number lim.place h) (first after) (header_number lim.place h) (is_0 lim.place h s.smid k f s.fits)
@@ -61,7 +61,7 @@ module _ (lim : Limits) (e : End) (g : well_made lim e ≡ true) (u : e.up ≡ t
   module _ (h : Header) (k : Kind) (is : read_header bytes ≡ h) (s : SoundHeader lim.place h k) where
     beyond : header_length ≤ length bytes → take_number lim e bytes st
         ≡ if (short_storage lim e st) 9 (if (ltb (length bytes) h.length) 10
-        (first (kind_cases lim (One k) e.role (holds h.sid e.slots) (full e.slots) (session_of h.sid e.slots) h)))
+        (first (kind_cases lim (Some k) e.role (holds h.sid e.slots) (full e.slots) (session_of h.sid e.slots) h)))
     beyond l =
         gate
         ∙ ap (λ (t : Bool). if (short_storage lim e st) 9 (if t 10 (own (read_header bytes)))) (le-ltb (length bytes) header_length l)
@@ -75,7 +75,7 @@ module _ (lim : Limits) (e : End) (g : well_made lim e ≡ true) (u : e.up ≡ t
 
     -- a whole packet: its own cases
     pub number_whole : h.length ≤ length bytes → take_number lim e bytes st
-        ≡ if (short_storage lim e st) 9 (first (kind_cases lim (One k) e.role (holds h.sid e.slots) (full e.slots) (session_of h.sid e.slots) h))
+        ≡ if (short_storage lim e st) 9 (first (kind_cases lim (Some k) e.role (holds h.sid e.slots) (full e.slots) (session_of h.sid e.slots) h))
     number_whole l = beyond (omega (arith, s.low)) ∙ rw (le-ltb (length bytes) h.length l)
 
 -- ---- the answer
@@ -90,11 +90,11 @@ module _ (lim : Limits) (e : End) (bytes : List ℕ) where
   unfolding take_storage
   storage_refused lent m n p = rw n (done_not m (taken_storage lim (flags_of (read_header bytes).flags) e (read_header bytes) bytes lent) lent p)
 
-  module _ (h : Header) (k : Kind) (is : read_header bytes ≡ h) (f : flags_of h.flags ≡ One k) where
-    pub answer_done : (st : ℕ) → take_number lim e bytes st ≡ 0 → take_of lim e bytes st ≡ take_done h (taken_end (One k) h e)
+  module _ (h : Header) (k : Kind) (is : read_header bytes ≡ h) (f : flags_of h.flags ≡ Some k) where
+    pub answer_done : (st : ℕ) → take_number lim e bytes st ≡ 0 → take_of lim e bytes st ≡ take_done h (taken_end (Some k) h e)
     unfolding take_of
     answer_done st n = rw (n, is, f)
 
-    pub storage_done : (lent : List ℕ) → take_number lim e bytes (length lent) ≡ 0 → take_storage lim e bytes lent ≡ taken_storage lim (One k) e h bytes lent
+    pub storage_done : (lent : List ℕ) → take_number lim e bytes (length lent) ≡ 0 → take_storage lim e bytes lent ≡ taken_storage lim (Some k) e h bytes lent
     unfolding take_storage
     storage_done lent n = rw (n, is, f)

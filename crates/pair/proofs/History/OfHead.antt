@@ -18,7 +18,7 @@ use Rattle.wire.proofs.Whole.{Whole, front_header, whole_length}
 use Rattle.table.specs.declared.end.End.{End}
 use Rattle.table.specs.Limits.{Limits}
 use Rattle.judge.specs.Number.{take_number, missing}
-use Rattle.take.specs.declared.Taken.{Taken}
+use Rattle.take.specs.Take.{TakeAnswer}
 use Rattle.take.specs.Take.{take_of}
 use Rattle.take.proofs.Answered.{take_told}
 use Rattle.pair.specs.Side.{Side, client, server}
@@ -44,7 +44,7 @@ unfolding take_of
 given_number lim e bytes st = take_told (take_number lim e bytes st) bytes e
 
 counts : (lim : Limits) (e : End) (bytes : List ℕ) (st : ℕ) → (take_of lim e bytes st).number ≡ 10 → (take_of lim e bytes st).missing ≡ missing bytes
-counts lim e bytes st q = ap (λ (r : Taken). r.missing) (answer_refused lim e bytes st 10 (sym (given_number lim e bytes st) ∙ q) (omega arith) (omega arith))
+counts lim e bytes st q = ap (λ (r : TakeAnswer). r.missing) (answer_refused lim e bytes st 10 (sym (given_number lim e bytes st) ∙ q) (omega arith) (omega arith))
 
 -- of a packet's front, given in part
 missing_head : {place : ℕ} {h : Header} {k : Kind} {v : List ℕ} → Whole place h k v → (rest : List ℕ) (n : ℕ)

@@ -26,7 +26,7 @@ use Rattle.table.specs.Slots.{lowest_free}
 use Rattle.table.specs.End.{put_of}
 use Rattle.table.specs.Limits.{Limits}
 use Rattle.table.proofs.Lowest.{lowest_unused, lowest_within}
-use Rattle.take.specs.declared.Taken.{Taken}
+use Rattle.take.specs.Take.{TakeAnswer}
 use Rattle.open.specs.Open.{syn_header}
 use Rattle.take.specs.Take.{taken_on, take_done, take_of}
 use Rattle.pair.specs.Side.{Side, other, server}
@@ -87,21 +87,21 @@ module _ (lim : Limits) (x : Scene) (k : Side) (given lent : ℕ) where
         ∙ ap (λ (v : ℕ). not (fin_sent (slot_at x k i).state && eqb v (flags_value Fin))) (sym kind);
     ignored = λ f d. after ∙ ignored f (λ e. d (kind ∙ e));
     session = whose ∙ ap some (sym (ap (λ (b : Notes). b.owner i) (with_own k _ _ x.book.notes) ∙ owner));
-    found = found ∙ ap (λ (r : Taken). not (eqb r.kind (flags_value Syn))) (sym answer);
-    others = λ j d. ap (λ (q : Party). get_or q.end.slots j free) party ∙ ap (λ (r : Taken). get_or r.end.slots j free) answer
+    found = found ∙ ap (λ (r : TakeAnswer). not (eqb r.kind (flags_value Syn))) (sym answer);
+    others = λ j d. ap (λ (q : Party). get_or q.end.slots j free) party ∙ ap (λ (r : TakeAnswer). get_or r.end.slots j free) answer
         ∙ get_or-set_other p.end.slots i j y free d;
     bytes = λ o u. ap (λ (q : Party). get_or q.storage o 0) party ∙ bytes o (outside o u);
   }
     where
       kind : made.reply.kind ≡ h.flags
-      kind = ap (λ (r : Taken). r.kind) answer
+      kind = ap (λ (r : TakeAnswer). r.kind) answer
 
       sid : made.reply.sid ≡ h.sid
-      sid = ap (λ (r : Taken). r.sid) answer
+      sid = ap (λ (r : TakeAnswer). r.sid) answer
 
       -- what stands in the slot afterwards
       after : slot_at made.after k i ≡ y
-      after = ap (λ (q : Party). get_or q.end.slots i free) party ∙ ap (λ (r : Taken). get_or r.end.slots i free) answer
+      after = ap (λ (q : Party). get_or q.end.slots i free) party ∙ ap (λ (r : TakeAnswer). get_or r.end.slots i free) answer
           ∙ get_or-set_same p.end.slots i y free inside
 
       outside : (o : ℕ) → (o < 4 * lim.place * i) ⊎ (4 * lim.place * suc i ≤ o) → Outside (4 * lim.place * i) (4 * lim.place) o

@@ -10,7 +10,7 @@ use Rattle.wire.proofs.Headers.{header_length_lem}
 use Rattle.session.specs.Changes.{closed_on}
 use Rattle.table.specs.End.{put_of}
 use Rattle.table.specs.Limits.{Limits}
-use Rattle.close.specs.declared.Closed.{Closed}
+use Rattle.close.specs.Close.{CloseAnswer}
 use Rattle.close.specs.Close.{fin_header}
 use Rattle.pair.specs.Side.{Side}
 use Rattle.pair.proofs.Lane.Half.{St, Body, Out, Room, close}
@@ -36,7 +36,7 @@ close_fits : (lim : Limits) (R : Room) (s : St) (B : Body) → FitsIn lim (close
 close_fits lim R s B = close_all (λ (o : Out). FitsIn lim o.emit) B R s (λ n a b. tt) (λ e. omega arith) (λ e. omega arith)
 
 -- what the call gives at its side, by its answer and its packet
-abbrev gives : Party → Closed → List ℕ → step.Done
+abbrev gives : Party → CloseAnswer → List ℕ → step.Done
 gives p r bytes = record { reply = emitting r.number 0 r.length bytes; end = r.end; storage = p.storage }
 
 close_outcome : {slots : ℕ} {lim : Limits} {x : Scene} {W : World} (m : Mirror slots lim x W) {k : Side} {n : ℕ} (t : T (has n (W.table k)))

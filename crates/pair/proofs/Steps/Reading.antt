@@ -22,7 +22,7 @@ use Rattle.table.specs.Storage.{place_start, storage_length}
 use Rattle.table.specs.End.{put_of}
 use Rattle.table.specs.Limits.{Limits}
 use Rattle.table.proofs.Places.{place_inside}
-use Rattle.read.specs.declared.Got.{Got}
+use Rattle.read.specs.Read.{ReadAnswer}
 use Rattle.read.specs.Read.{oldest_length, read_cases, ack_on, oldest_in, read_done}
 use Rattle.pair.specs.Side.{Side}
 use Rattle.pair.proofs.Lane.Half.{St, Body, Out, Room, read}
@@ -58,7 +58,7 @@ not_short s room ack short z =
 -- ---- the call
 
 -- what the call gives at its side, by its answer, its payload and its ACK
-abbrev gives : Party → Got → List ℕ → List ℕ → step.Done
+abbrev gives : Party → ReadAnswer → List ℕ → List ℕ → step.Done
 gives p r payload bytes = record {
   reply = record {
     number = r.number;
@@ -76,7 +76,7 @@ gives p r payload bytes = record {
   storage = p.storage;
 }
 
-gives_same : (p : Party) {r r' : Got} {a a' b b' : List ℕ} → r ≡ r' → a ≡ a' → b ≡ b' → gives p r a b ≡ gives p r' a' b'
+gives_same : (p : Party) {r r' : ReadAnswer} {a a' b b' : List ℕ} → r ≡ r' → a ≡ a' → b ≡ b' → gives p r a b ≡ gives p r' a' b'
 gives_same p e f g = cc
 
 module _ {slots : ℕ} {lim : Limits} {x : Scene} {W : World} (m : Mirror slots lim x W) {k : Side} {n : ℕ} (t : T (has n (W.table k)))

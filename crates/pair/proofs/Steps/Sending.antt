@@ -10,7 +10,7 @@ use Rattle.wire.proofs.Headers.{packet_length_lem}
 use Rattle.session.specs.Changes.{sent_on}
 use Rattle.table.specs.End.{put_of}
 use Rattle.table.specs.Limits.{Limits}
-use Rattle.send.specs.declared.Sent.{Sent}
+use Rattle.send.specs.Send.{SendAnswer}
 use Rattle.send.specs.Send.{data_header}
 use Rattle.pair.specs.Side.{Side}
 use Rattle.pair.proofs.Lane.Half.{Bytes, St, Body, Out, send}
@@ -37,7 +37,7 @@ send_fits lim p room s B = send_all (λ (o : Out). FitsIn lim o.emit) B p (send_
     (λ e small open'. nltb→le lim.place (length p) small)
 
 -- what the call gives at its side, by its answer and its packet
-abbrev gives : Party → Sent → List ℕ → step.Done
+abbrev gives : Party → SendAnswer → List ℕ → step.Done
 gives p r bytes = record { reply = emitting r.number 0 r.length bytes; end = r.end; storage = p.storage }
 
 send_outcome : {slots : ℕ} {lim : Limits} {x : Scene} {W : World} (m : Mirror slots lim x W) {k : Side} {n : ℕ} (t : T (has n (W.table k)))

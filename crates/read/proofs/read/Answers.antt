@@ -1,42 +1,43 @@
--- What was seen and found, handed to the law for a refusal, or for a read that is done.
-use Rattle.std.proofs.Common.{◌≡◌, length, arith}
+-- What was found and asked, handed to the law for a refusal, or for a read that is done.
+use Rattle.std.proofs.Common.{rules, arith}
 use Rattle.read.proofs.Emitted.{read_counts}
-use Rattle.read.proofs.Reading.{read_refused_lem, read_fits, read_done_lem}
+use Rattle.read.proofs.Reading.{unfound, unread_lem, fits, read_lem}
 use Rattle.read.proofs.read.Goals as goal
 
-pub returns-then-n-ne-DONE-clause-read_promise : goal.returns-then-n-ne-DONE-clause-read_promise
-returns-then-n-ne-DONE-clause-read_promise c =
+pub returns-in_err-found-clause-read_promise : goal.returns-in_err-found-clause-read_promise
+returns-in_err-found-clause-read_promise c =
     let a = c.args in
-    let w : 16 ≡ length a.e.slots = omega arith in
-    read_refused_lem a.e a.sid a.storage.now a.payload.now a.ack.now w c.scan-l.ensures c.read_number-n.ensures c.refused.ensures c.if-n-ne-DONE.true
+    unfound a.e.now a.sid a.storage.now a.payload.now a.ack.now c.from_residual.result c.from_residual.ensures.0 (search rules)
+
+pub returns-in_err-may_read-clause-read_promise : goal.returns-in_err-may_read-clause-read_promise
+returns-in_err-may_read-clause-read_promise c =
+    let a = c.args in
+    unread_lem a.e.now a.sid a.storage.now a.payload.now a.ack.now c.is_short-short.ensures.sixteen c.is_short-short.ensures.value c.in_ok-found.ensures.found c.in_ok-found.ensures.number
+    c.from_residual-in_err-may_read.result c.from_residual-in_err-may_read.ensures.0 (search rules)
 
 pub hand_over-requires : goal.hand_over-requires
 hand_over-requires c =
     let a = c.args in
-    let w : 16 ≡ length a.e.slots = omega arith in
     let f =
-    read_fits a.e a.sid a.storage.now a.payload.now a.ack.now w c.scan-l.ensures c.read_number-n.ensures c.if-n-ne-DONE.false in
-    (f.within, omega (arith, f.short, c.oldest_length-len.ensures), omega (arith, f.room, c.oldest_length-len.ensures), f.storage)
+    fits a.e.now a.sid a.storage.now a.payload.now a.ack.now c.is_short-short.ensures.sixteen c.is_short-short.ensures.value c.in_ok-found.ensures.found c.in_ok-found.ensures.number c.in_ok-may_read.ensures in
+    (f.within, omega (arith, f.short, c.oldest_length-payload_length.ensures), omega (arith, f.room, c.oldest_length-payload_length.ensures), f.storage)
 
-pub write_ack-a-requires : goal.write_ack-a-requires
-write_ack-a-requires c =
+pub write_ack-ack_length-requires : goal.write_ack-ack_length-requires
+write_ack-ack_length-requires c =
     let a = c.args in
-    let w : 16 ≡ length a.e.slots = omega arith in
-    (read_fits a.e a.sid a.storage.now a.payload.now a.ack.now w c.scan-l.ensures c.read_number-n.ensures c.if-n-ne-DONE.false).ack
+    (fits a.e.now a.sid a.storage.now a.payload.now a.ack.now c.is_short-short.ensures.sixteen c.is_short-short.ensures.value c.in_ok-found.ensures.found c.in_ok-found.ensures.number c.in_ok-may_read.ensures).ack
 
 pub returns-clause-read_promise : goal.returns-clause-read_promise
 returns-clause-read_promise c =
     let a = c.args in
-    let w : 16 ≡ length a.e.slots = omega arith in
-    read_done_lem a.e a.sid a.storage.now a.payload.now a.ack.now w c.scan-l.ensures c.read_number-n.ensures c.if-n-ne-DONE.false
-    c.oldest_length-len.ensures c.oldest.ensures c.hand_over.ensures c.write_ack-a.ensures.value c.write_ack-a.ensures.ack_after c.read-y.ensures
-    c.put.ensures c.done.ensures
+    read_lem a.e.now a.sid a.storage.now a.payload.now a.ack.now c.is_short-short.ensures.sixteen c.is_short-short.ensures.value c.in_ok-found.ensures.found c.in_ok-found.ensures.number c.in_ok-may_read.ensures
+    c.oldest_length-payload_length.ensures c.oldest.ensures c.hand_over.ensures c.write_ack-ack_length.ensures.value c.write_ack-ack_length.ensures.ack_after
+    c.read.ensures c.put.ensures
 
 pub returns-clause-front : goal.returns-clause-front
 returns-clause-front c =
     let a = c.args in
-    let w : 16 ≡ length a.e.slots = omega arith in
     read_counts
-    (read_done_lem a.e a.sid a.storage.now a.payload.now a.ack.now w c.scan-l.ensures c.read_number-n.ensures c.if-n-ne-DONE.false
-    c.oldest_length-len.ensures c.oldest.ensures c.hand_over.ensures c.write_ack-a.ensures.value c.write_ack-a.ensures.ack_after c.read-y.ensures
-    c.put.ensures c.done.ensures)
+    (read_lem a.e.now a.sid a.storage.now a.payload.now a.ack.now c.is_short-short.ensures.sixteen c.is_short-short.ensures.value c.in_ok-found.ensures.found c.in_ok-found.ensures.number c.in_ok-may_read.ensures
+    c.oldest_length-payload_length.ensures c.oldest.ensures c.hand_over.ensures c.write_ack-ack_length.ensures.value c.write_ack-ack_length.ensures.ack_after
+    c.read.ensures c.put.ensures)

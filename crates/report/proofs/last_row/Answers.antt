@@ -1,14 +1,12 @@
--- `end` and its state, and the number behind it.
-use Rattle.std.proofs.Common.{arith}
-use Rattle.buffer.proofs.Wrote.{then}
-use Rattle.text.proofs.Decimals.{decimal_most}
-use Rattle.report.specs.Rows.{end_row}
-use Rattle.report.proofs.Told.{last_length}
+-- `end`, its state, the number, and LF behind it.
+use Rattle.std.proofs.Common.{List, ℕ, ◌∷◌, subst}
+use Rattle.text.proofs.Writing.{then}
+use Rattle.text.specs.Writing.{Written}
+use Rattle.report.specs.Rows.{space, end_row}
 use Rattle.report.proofs.last_row.Goals as goal
 
 pub returns-clause-wrote : goal.returns-clause-wrote
 unfolding end_row
-returns-clause-wrote c = then c.state-a.ensures c.last_number.ensures
-
-pub returns-clause-held_len_bound : goal.returns-clause-held_len_bound
-returns-clause-held_len_bound c = last_length c.args.up c.args.held (decimal_most 9 c.args.held (omega arith))
+returns-clause-wrote c =
+    let word = subst (λ (t : List ℕ). Written c.bytes.new.self (space ∷ t) c.put.new.w) c.state.ensures c.put.ensures in
+    then c.bytes.ensures (then word (then c.number.ensures c.byte.ensures))

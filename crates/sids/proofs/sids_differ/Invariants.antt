@@ -1,17 +1,10 @@
--- Outer loop: SIDs from i on differ. Inner loop: the SID is in a slot after i exactly if it is in one from j on.
-use Rattle.std.proofs.Common.{◌-◌, ◌+◌, ◌≡◌, ◌≤◌, ◌<◌, drop, true}
-use Rattle.table.specs.Slots.{holds}
+-- The SIDs in use differ where those of the slots not yet seen do.
+use Rattle.std.proofs.Common.{◌≡◌, length}
 use Rattle.table.specs.Well.{sids_differ}
 use Rattle.sids.proofs.sids_differ.Given as goal
 
-abbrev pub invariant-loop-j : goal.invariant-loop-j
-invariant-loop-j l = (l.i < l.j) × (l.j ≤ 16) × (holds l.id (drop (l.i + 1) l.e.slots) ≡ holds l.id (drop l.j l.e.slots))
+abbrev pub invariant-loop-x : goal.invariant-loop-x
+invariant-loop-x l = sids_differ l.e.slots ≡ sids_differ l.slots
 
-abbrev pub decreases-loop-j : goal.decreases-loop-j
-decreases-loop-j l = 16 - l.j
-
-abbrev pub invariant-loop-i : goal.invariant-loop-i
-invariant-loop-i l = (l.i ≤ 16) × (sids_differ (drop l.i l.e.slots) ≡ true)
-
-abbrev pub decreases-loop-i : goal.decreases-loop-i
-decreases-loop-i l = l.i
+abbrev pub decreases-loop-x : goal.decreases-loop-x
+decreases-loop-x l = length l.slots

@@ -1,14 +1,20 @@
--- A word is what stands behind the k-th space, up to the next.
-use Rattle.std.proofs.Common.{arith}
-use Rattle.text.proofs.Lines.{until_inside}
-use Rattle.words.specs.Words.{space}
-use Rattle.words.proofs.Spelled.{word_part}
+-- The k-th of the parts between spaces.
+use Rattle.std.proofs.Common.{◌≡◌, Option, Some, None, [], Bor, refl, ap, ◌∙◌, rules}
+use borrow.Author.Tests.{tests}
+use Rattle.std.specs.Option.{unwrap_or, option_map}
+use Rattle.std.proofs.lemmas.Iterator.Consumers.{nth_from_yields_List}
+use Rattle.std.proofs.lemmas.Iterator.Splits.{YieldsList-from_slice_split}
+use Rattle.words.specs.Words.{is_space}
 use Rattle.words.proofs.word.Goals as goal
 
-pub slice_bounds-result-end : goal.slice_bounds-result-end
-slice_bounds-result-end c =
-    let inside = until_inside space c.args.line.now c.begin-a.result c.begin-a.ensures.upper_bound in
-    omega (arith, c.until-e.ensures, inside)
+-- what stands behind the reference that was found, or behind the other
+now_or : {A : Type 0} (r : Option (Bor A)) (d : Bor A) → (unwrap_or r d).now ≡ unwrap_or (option_map (λ x. x.now) r) d.now
+now_or None d = refl
+now_or (Some x) d = refl
 
 pub returns : goal.returns
-returns c = word_part c.args.line.now c.args.k c.begin-a.result c.until-e.result c.begin-a.ensures.line_value c.until-e.ensures
+returns c =
+    let found = nth_from_yields_List c.nth.result c.nth.new.self c.args.k c.nth.ensures.ran
+    (YieldsList-from_slice_split _ is_space c.args.line.now c.split.ensures.rest c.split.ensures.done c.split.ensures.closure
+    (λ x b q k. search (rules, tests))) in
+    rw c.unwrap_or.ensures (now_or c.nth.result _ ∙ ap (λ o. unwrap_or o []) found)

@@ -1,11 +1,6 @@
--- The first i bytes of the text are at the front of the buffer, and no other byte has changed.
-use Rattle.std.proofs.Common.{◌≡◌, ◌-◌, ◌/◌, ◌≤◌, length}
-use Rattle.std.proofs.Math.Seq.{paste}
-use Rattle.text.specs.Hex.{from_hex}
+-- What is written, with the bytes of the pairs still to come, are the bytes of the text.
+use Rattle.text.proofs.Decoding.{Decoding}
 use Rattle.text.proofs.hex.decode.Given as goal
 
-abbrev pub invariant-loop-i : goal.invariant-loop-i
-invariant-loop-i l = (l.n ≡ length l.text / 2) × (l.i ≤ l.n) × (l.out ≡ paste l.fn.out 0 (from_hex l.text) l.i)
-
-abbrev pub decreases-loop-i : goal.decreases-loop-i
-decreases-loop-i l = l.n - l.i
+abbrev pub invariant-loop-pair : goal.invariant-loop-pair
+invariant-loop-pair l = Decoding l.text l.initial.w l.w l.pair-iterator.rest.now l.pair-iterator.size

@@ -1,10 +1,7 @@
--- The session is still to be found from slot i on.
-use Rattle.std.proofs.Common.{◌-◌, ◌≡◌, drop}
+-- The session is still to be found from slot x-index on.
+use Rattle.std.proofs.Common.{◌≡◌, drop}
 use Rattle.table.specs.Slots.{session_of}
 use Rattle.table.proofs.end.End.unread_of.Given as goal
 
-abbrev pub invariant-loop-i : goal.invariant-loop-i
-invariant-loop-i l = session_of l.sid l.self.slots ≡ session_of l.sid (drop l.i l.self.slots)
-
-abbrev pub decreases-loop-i : goal.decreases-loop-i
-decreases-loop-i l = 16 - l.i
+abbrev pub invariant-loop-x : goal.invariant-loop-x
+invariant-loop-x l = session_of l.sid l.self.slots ≡ session_of l.sid (drop l.x-index l.self.slots)
