@@ -3,7 +3,7 @@
 // To cut a packet out of its buffer, `&packet[..n]`, a program needs one fact: so many bytes are there. The calls promise it, so no function here
 // needs a proof file. The end of a range is a local (`let n = opened.length;`), since a field isn't taken there.
 use crate::say::{Refused, Streams};
-use smp::{End, Refusal, Role, Stop};
+use smp::{End, Refusal, Role};
 
 // A packet is a header and, for a row, its payload.
 const HEADER: usize = 16;
@@ -33,60 +33,55 @@ impl Party {
         if packet.is_empty() {
             return Ok(());
         }
-        match smp::take(&mut self.end, packet, &mut self.storage) {
-            Ok(_) => Ok(()),
-            Err(stop) => Err(self.refused("take", stop)),
-        }
-    }
-
-    fn refused(&self, call: &'static str, stop: Stop) -> Refused {
-        Refused {
-            role: self.end.role,
-            call,
-            stop,
-        }
+        let role = self.end.role;
+        smp::take(&mut self.end, packet, &mut self.storage).map_err(|stop| Refused::new(
+            role, "take", stop,
+        ))?;
+        Ok(())
     }
 
     // A new session: its SYN goes out, and its SID is in the answer.
     pub(crate) fn open(&mut self, to: Streams, other: &mut Party) -> Result<(), Refused> {
+        let role = self.end.role;
         let mut packet = [0; HEADER];
-        match smp::open(&mut self.end, &mut packet) {
-            Ok(opened) => {
-                to.session(self.end.role, "opened", opened.sid);
-                let n = opened.length;
-                other.arrive(&packet[..n])
-            }
-            Err(r) => Err(self.refused("open", r.into())),
-        }
+        let opened = smp::open(&mut self.end, &mut packet).map_err(|r| Refused::new(
+            role,
+            "open",
+            r.into(),
+        ))?;
+        to.session(role, "opened", opened.sid);
+        let n = opened.length;
+        other.arrive(&packet[..n])
     }
 
     // A row goes out in a DATA packet. `Refusal::WindowClosed` would say that the other end has announced no more room yet.
     pub(crate) fn send(&mut self, other: &mut Party, sid: u16, row: &[u8]) -> Result<(), Refused> {
+        let role = self.end.role;
         let mut packet = [0; PACKET];
-        match smp::send(&mut self.end, sid, row, &mut packet) {
-            Ok(n) => other.arrive(&packet[..n]),
-            Err(r) => Err(self.refused("send", r.into())),
-        }
+        let n = smp::send(&mut self.end, sid, row, &mut packet).map_err(|r| Refused::new(
+            role,
+            "send",
+            r.into(),
+        ))?;
+        other.arrive(&packet[..n])
     }
 
     // The oldest row that waits is handed over. An ACK goes out, so that the writer may send on, where two rows were read since this end last sent
     // something; none does after the writer's FIN.
     pub(crate) fn read(&mut self, to: Streams, other: &mut Party, sid: u16) -> Result<(), Refused> {
+        let role = self.end.role;
         let mut row = [0; ROW];
         let mut ack = [0; HEADER];
-        match smp::read(&mut self.end, sid, &self.storage, &mut row, &mut ack) {
-            Ok(got) => {
-                let n = got.payload_length;
-                let m = got.ack_length;
-                to.row(self.end.role, &row[..n], sid);
-                other.arrive(&ack[..m])
-            }
-            Err(Refusal::WriterEnded) => {
-                to.session(self.end.role, "read all of", sid);
-                Ok(())
-            }
-            Err(r) => Err(self.refused("read", r.into())),
+        let went = smp::read(&mut self.end, sid, &self.storage, &mut row, &mut ack);
+        if let Err(Refusal::WriterEnded) = went {
+            to.session(role, "read all of", sid);
+            return Ok(());
         }
+        let got = went.map_err(|r| Refused::new(role, "read", r.into()))?;
+        let n = got.payload_length;
+        let m = got.ack_length;
+        to.row(role, &row[..n], sid);
+        other.arrive(&ack[..m])
     }
 
     // No more is sent in this session. It is gone once both ends have closed it.
@@ -96,13 +91,14 @@ impl Party {
         other: &mut Party,
         sid: u16,
     ) -> Result<(), Refused> {
+        let role = self.end.role;
         let mut packet = [0; HEADER];
-        match smp::close(&mut self.end, sid, &mut packet) {
-            Ok(n) => {
-                to.session(self.end.role, "closed", sid);
-                other.arrive(&packet[..n])
-            }
-            Err(r) => Err(self.refused("close", r.into())),
-        }
+        let n = smp::close(&mut self.end, sid, &mut packet).map_err(|r| Refused::new(
+            role,
+            "close",
+            r.into(),
+        ))?;
+        to.session(role, "closed", sid);
+        other.arrive(&packet[..n])
     }
 }

@@ -18,6 +18,12 @@ pub struct Refused {
     pub stop: Stop,
 }
 
+impl Refused {
+    pub(crate) fn new(role: Role, call: &'static str, stop: Stop) -> Refused {
+        Refused { role, call, stop }
+    }
+}
+
 impl fmt::Display for Refused {
     fn fmt<W: fmt::Write>(&self, f: &mut fmt::Formatter<W>) -> fmt::Result {
         write!(
