@@ -3,6 +3,7 @@ pub mod Plain
 pub mod Exact
 pub mod Demand1
 pub mod One
+pub mod Says
 pub mod Kept
 pub mod Notices
 pub mod Twelve
