@@ -13,7 +13,7 @@ use Rattle.table.specs.Limits.{base}
 use Rattle.table.specs.Slots.{holds, session_of, full}
 use Rattle.scan.specs.Look.{found_in, free_in}
 use Rattle.judge.specs.Number.{other_cases}
-use Rattle.judge.specs.Parts.{session_in}
+use Rattle.judge.specs.Seen.{session_in}
 
 pub found_some : (sid : ℕ) (xs : List Session) → is_some (found_in sid xs) ≡ holds sid xs
 found_some sid xs = grind arith

@@ -1,4 +1,5 @@
 pub mod Number
 pub mod Stops
 pub mod Act
+pub mod Seen
 pub mod Parts

@@ -1,14 +1,14 @@
 // What judges a packet, before anything is written: the header at the front, the number that take gives, and what is to be done.
 #![tactic(auto)]
 
-ghost use Rattle.std.specs.Prelude.{◌≡◌, ◌-◌, length, Some, is_some, is_none, IfOk, IfErr};
+ghost use Rattle.std.specs.Prelude.{◌≡◌, false, length, Some, is_some, is_none, IfOk, IfErr};
 ghost use Rattle.cases.specs.Cases.{first, fault_in};
-ghost use Rattle.table.specs.End.{slot_count};
+ghost use Rattle.wire.specs.Packet.{read_header};
 ghost use Rattle.table.specs.Limits.{base};
-ghost use Rattle.scan.specs.Look.{seen};
 ghost use Rattle.judge.specs.Number.{syn_cases, other_cases, take_number, missing};
 ghost use Rattle.judge.specs.Stops.{stop_in, Counts};
-ghost use Rattle.judge.specs.Parts.{front_of, session_in, gate_number, whole_number, kind_number, Passed, Whole, Asked};
+ghost use Rattle.judge.specs.Parts.{sid_in, gate_number, whole_number, kind_number, Whole};
+ghost use Rattle.judge.specs.Seen.{front_of, session_in, seen_number, ActAt, Decided};
 ghost use Rattle.judge.specs.Act.{IsJudged};
 
 use cases::fault::Fault;
@@ -89,52 +89,56 @@ fn moves(k: Kind, found: Option<Found>, h: Header) -> Result<Found, Fault>
     Ok(found)
 }
 
-// 12, 1, 9, and 10 where there are under sixteen bytes; else what was seen of the end, and the header.
-#[tactic(auto, unfolding(cases::specs::Cases::first, scan::specs::Look::look_of, crate::specs::Parts::gate_number))]
-fn gate(e: &End, bytes: &[u8], room: usize) -> Result<(Look, Header), Stop>
-    ensures number { stop_in result ≡ gate_number e.now bytes.now room }
-    ensures count { IfErr result (Counts (missing bytes.now)) }
-    ensures passed { IfOk result (λ p. Passed p.0 p.1 e.now bytes.now room) }
+// How many bytes more are needed: of sixteen where the header isn't whole, else of its LENGTH; 0 where none is missing.
+pub fn missing(bytes: &[u8]) -> usize
+    ensures { result ≡ missing bytes.now }
 {
-    let front = front(bytes);
-    let look = scan(e, front.map_or(0, |h| h.sid))?;
-    if !e.up {
+    let whole = match front(bytes) {
+        Some(h) => h.length as usize,
+        None => Header::LEN,
+    };
+    whole.saturating_sub(bytes.len())
+}
+
+// 1, 9, and 10 where there are under sixteen bytes; else the header.
+#[tactic(auto, unfolding(cases::specs::Cases::first, crate::specs::Parts::gate_number))]
+fn gate(up: bool, short: bool, bytes: &[u8]) -> Result<Header, Stop>
+    ensures number { stop_in result ≡ gate_number up short (length bytes.now) }
+    ensures count { IfErr result (Counts (missing bytes.now)) }
+    ensures header { IfOk result (λ h. h ≡ read_header bytes.now) }
+    ensures room { IfOk result (λ h. short ≡ false) }
+{
+    if !up {
         return Err(Refusal::Down.into());
     }
-    if storage::is_short(e, room) {
+    if short {
         return Err(Refusal::TooShort.into());
     }
-    let Some(header) = front else {
-        return Err(Stop::MoreBytes(Header::LEN - bytes.len()));
-    };
-    Ok((look, header))
+    front(bytes).ok_or_else(|| Stop::MoreBytes(missing(bytes)))
 }
 
 // 20, 21, 22, and 10 where there are fewer bytes than LENGTH; else the packet's kind.
 #[tactic(auto, using(crate::proofs::Numbers::fault_least), unfolding(cases::specs::Cases::first, wire::specs::Packet::header_number, crate::specs::Parts::whole_number))]
-fn whole(h: Header, given: usize) -> Result<Kind, Stop>
-    ensures number { stop_in result ≡ whole_number h given }
-    ensures count { IfErr result (Counts (h.length - given)) }
-    ensures whole { IfOk result (λ k. Whole k h given) }
+fn whole(h: Header, bytes: &[u8]) -> Result<Kind, Stop>
+    ensures number { stop_in result ≡ whole_number h (length bytes.now) }
+    ensures count { IfErr result (Counts (missing bytes.now)) }
+    ensures whole { IfOk result (λ k. Whole k h (length bytes.now)) }
 {
     let kind = h.shape(Session::PAYLOAD)?;
-    let length = h.length as usize;
-    if given < length {
-        return Err(Stop::MoreBytes(length - given));
+    if bytes.len() < h.length as usize {
+        return Err(Stop::MoreBytes(missing(bytes)));
     }
     Ok(kind)
 }
 
-// The first fault of a whole packet of that kind; else what is to be done with it, where `look` is what was seen of the end.
-#[tactic(auto, using(crate::proofs::Seen::found_some, crate::proofs::Seen::free_none, crate::proofs::Seen::other_seen, table::proofs::Slots::within), unfolding(crate::specs::Parts::kind_number))]
-fn asked(e: &End, look: Look, kind: Kind, h: Header) -> Result<Act, Fault>
-    requires look { look ≡ seen e.now h.sid }
-    requires slots { slot_count ≡ length e.now.slots }
-    ensures number { fault_in result ≡ kind_number (Some kind) h e.now }
-    ensures asked { IfOk result (λ a. Asked a kind h e.now) }
+// The first fault of a whole packet of that kind; else what is to be done with it.
+#[tactic(auto, unfolding(crate::specs::Parts::kind_number))]
+fn asked(look: Look, role: Role, kind: Kind, h: Header) -> Result<Act, Fault>
+    ensures number { fault_in result ≡ kind_number (Some kind) look role h }
+    ensures act { IfOk result (λ a. ActAt a kind look) }
 {
     match kind {
-        Kind::Syn => Ok(Act::Begin(begins(e.role, look, h)?)),
+        Kind::Syn => Ok(Act::Begin(begins(role, look, h)?)),
         Kind::Ack | Kind::Fin | Kind::Data => {
             let found = moves(kind, look.found, h)?;
             Ok(Act::Do(found, cell_of(found.session.state, kind)))
@@ -142,16 +146,37 @@ fn asked(e: &End, look: Look, kind: Kind, h: Header) -> Result<Act, Fault>
     }
 }
 
+// What take is to do with the packet at the front of `bytes`, or why it stops, of what was seen of a well-made end (where the SID in the packet's
+// header was looked for), whether it is up, its role, and whether the storage is too short. The first number that applies: 1, 9; 10 if there are under
+// sixteen bytes; 20, 21, 22; 10 if there are fewer than LENGTH; then by kind.
+#[tactic(auto, using(crate::proofs::Numbers::seen_is, crate::proofs::Numbers::fault_least, crate::proofs::Numbers::stop_positive))]
+pub fn decide(look: Look, up: bool, role: Role, short: bool, bytes: &[u8]) -> Result<Judged, Stop>
+    ensures number { stop_in result ≡ seen_number base look up role short bytes.now }
+    ensures count { IfErr result (Counts (missing bytes.now)) }
+    ensures decided { IfOk result (λ j. Decided j look short bytes.now) }
+{
+    let header = gate(up, short, bytes)?;
+    let kind = whole(header, bytes)?;
+    let act = asked(look, role, kind, header)?;
+    Ok(Judged { header, kind, act })
+}
+
+// The SID in the header at the front; 0 where there are under sixteen bytes.
+fn sid_in(bytes: &[u8]) -> u16
+    ensures { result ≡ sid_in bytes.now }
+{
+    front(bytes).map_or(0, |h| h.sid)
+}
+
 // What take is to do with the packet at the front of `bytes` at the end e, where it is lent a storage of so many bytes; or why it stops, the first
 // number that applies: 12, 1, 9; 10 if there are under sixteen bytes; 20, 21, 22; 10 if there are fewer than LENGTH; then by kind.
-#[tactic(auto, using(crate::proofs::Numbers::number_is, crate::proofs::Numbers::fault_least, crate::proofs::Numbers::stop_positive))]
+#[tactic(auto, using(crate::proofs::Judging::ill_made, crate::proofs::Judging::as_seen, crate::proofs::Judging::judged))]
 pub fn judge(e: &End, bytes: &[u8], room: usize) -> Result<Judged, Stop>
     ensures number { stop_in result ≡ take_number base e.now bytes.now room }
     ensures count { IfErr result (Counts (missing bytes.now)) }
     ensures judged { IfOk result (λ j. IsJudged j e.now bytes.now room) }
 {
-    let (look, header) = gate(e, bytes, room)?;
-    let kind = whole(header, bytes.len())?;
-    let act = asked(e, look, kind, header)?;
-    Ok(Judged { header, kind, act })
+    let look = scan(e, sid_in(bytes))?;
+    let short = storage::is_short(e, room);
+    decide(look, e.up, e.role, short, bytes)
 }
