@@ -5,6 +5,7 @@ mod command;
 mod library;
 mod lines;
 mod own;
+mod shown;
 mod world;
 
 use lines::{Conversation, Streams};

@@ -1,13 +1,13 @@
 // The program's own lines: what a caller may do with the end and the storage that it holds. A word that says nothing counts as 0.
 use crate::world::World;
 use fields::reply;
-use table::end::Role;
 use words::{limits, stated};
 
 impl World {
     // lend N: how much of the storage calls are lent from here on.
     pub(crate) fn lend(&mut self, line: &[u8]) {
-        self.storage.lend(words::value(line, 1, limits::STORAGE).unwrap_or(0) as usize);
+        self.storage
+            .lend(words::value(line, 1, limits::STORAGE) as usize);
         reply::ok(&mut self.answer);
     }
 
@@ -19,7 +19,7 @@ impl World {
 
     // end ROLE UP: role and state of the end from here on.
     pub(crate) fn end(&mut self, line: &[u8]) {
-        let role = words::role(words::word(line, 1)).unwrap_or(Role::Client);
+        let role = words::role(words::word(line, 1));
         self.end = self
             .end
             .with_role(role, words::number_at(line, 2) == Some(1));

@@ -89,12 +89,14 @@ pub fn bad(answer: &mut Answer)
     answer.word(b"bad");
 }
 
-// BYTES, of peek: the bytes that the line asks for of the storage, `bad` where it ends before.
+// BYTES, of peek: the bytes that the line asks for of the storage, `bad` where it ends before. (By itself, since LLVM must know that the line and the
+// storage are apart; else it goes character by character.)
+#[inline(never)]
 pub fn peeked(answer: &mut Answer, line: &[u8], storage: &[u8])
     ensures { answer.new ≡ peeked line.now storage.now answer.old }
 {
-    let at = words::value(line, 1, limits::STORAGE).unwrap_or(0) as usize;
-    let n = words::value(line, 2, limits::PEEK).unwrap_or(0) as usize;
+    let at = words::value(line, 1, limits::STORAGE) as usize;
+    let n = words::value(line, 2, limits::PEEK) as usize;
     match storage.get(at..at + n) {
         Some(bytes) => answer.bytes(bytes),
         None => bad(answer),

@@ -11,6 +11,9 @@ use words::limits;
 // The byte that rooms are filled with.
 pub const FILL: u8 = 0xa5;
 
+// A room by itself.
+pub type Room = [u8; limits::ROOM_LENGTH];
+
 // An array of which calls are lent the first `count` bytes.
 #[derive(Drop)]
 pub struct Lent<const N: usize> {
@@ -18,7 +21,7 @@ pub struct Lent<const N: usize> {
     count: usize,
 }
 
-pub type Room = Lent<{ limits::ROOM_LENGTH }>;
+pub type LentRoom = Lent<{ limits::ROOM_LENGTH }>;
 
 // A contract sees the fields. (A ghost field would say as much, but then no part of `bytes` could be lent.)
 impl<const N: usize> Model for Lent<N> {
@@ -105,31 +108,39 @@ fn is_filled(room: &[u8], from: usize) -> bool
 }
 
 // The room that word k of the line asks for, filled. A word that is no number up to 8,192 asks for no byte.
-pub fn asked(line: &[u8], k: usize) -> Room
+pub fn asked(line: &[u8], k: usize) -> LentRoom
     ensures bytes { result.bytes ≡ replicate room_length fill }
     ensures count { result.count ≡ value_of line.now k room_length }
 {
-    let count = words::value(line, k, limits::ROOM).unwrap_or(0) as usize;
+    let count = words::value(line, k, limits::ROOM) as usize;
     Lent {
         bytes: [FILL; limits::ROOM_LENGTH],
         count,
     }
 }
 
-// A room with the bytes that a word spells in hexadecimal at its front, and those lent. A word that is no hexadecimal, or spells more bytes than a
-// room has, spells none.
-pub fn spelled(chars: &[u8]) -> Room
+// Puts the bytes that a word spells in hexadecimal at the front of a room, and lends those; later bytes stay. A word that is no hexadecimal, or spells more
+// bytes than a room has, spells none. (A room that is answered by value is copied twice.)
+pub fn spell(chars: &[u8], room: &mut LentRoom)
+    ensures bytes { room.new.bytes ≡ onto (bytes_of chars.now) room.old.bytes }
+    ensures count { room.new.count ≡ length (bytes_of chars.now) }
+{
+    room.count = bytes(chars, &mut room.bytes);
+}
+
+// A room of zeros with the bytes that a word spells at its front, and those lent.
+pub fn spelled(chars: &[u8]) -> LentRoom
     ensures bytes { result.bytes ≡ onto (bytes_of chars.now) (replicate room_length 0) }
     ensures count { result.count ≡ length (bytes_of chars.now) }
 {
-    let mut bytes = [0; limits::ROOM_LENGTH];
-    let count = self::bytes(chars, &mut bytes);
-    Lent { bytes, count }
+    let mut room = Lent::filled(0);
+    spell(chars, &mut room);
+    room
 }
 
 // Writes the bytes that a word spells in hexadecimal at the front of an array, and answers how many; later bytes stay. A word that is no hexadecimal, or
 // spells more bytes than a room has, spells none.
-pub fn bytes(chars: &[u8], out: &mut [u8; limits::ROOM_LENGTH]) -> usize
+pub fn bytes(chars: &[u8], out: &mut Room) -> usize
     ensures front { Front result out.new }
     ensures value { result ≡ length (bytes_of chars.now) }
     ensures out_after { out.new ≡ onto (bytes_of chars.now) out.old }

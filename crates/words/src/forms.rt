@@ -3,7 +3,7 @@ ghost use Rattle.std.specs.Prelude.{◌≡◌};
 ghost use Rattle.words.specs.Forms.{asked, meets, all_meet, is_right, named, form_of};
 ghost use Rattle.words.specs.Words.{word_of};
 
-use crate::{after_first, is_bytes, limits, number, role, word};
+use crate::{after_first, is_bytes, limits, number, role_in, word};
 
 // The lines by their names.
 #[derive(Clone, Copy, Debug, PartialEq, Eq)]
@@ -83,7 +83,7 @@ impl Ask {
         match self {
             Ask::Number(most) => number(chars).is_some_and(|n| n <= most),
             Ask::Bytes => is_bytes(chars),
-            Ask::Role => role(chars).is_some(),
+            Ask::Role => role_in(chars).is_some(),
         }
     }
 }

@@ -7,9 +7,8 @@ pub mod held;
 pub mod limits;
 pub mod stated;
 
-ghost use Rattle.std.specs.Prelude.{◌≡◌, ◌<◌, ◌≤◌, IfSome, unwrap_or};
-ghost use Rattle.words.specs.Words.{spaces, word_of, spelled, spelled_at, within, no_number, value_of, short, counter, is_bytes, role_in, role_of};
-ghost use Rattle.table.specs.declared.end.Role as role;
+ghost use Rattle.std.specs.Prelude.{◌≡◌, ◌≤◌};
+ghost use Rattle.words.specs.Words.{spaces, word_of, spelled, spelled_at, value_of, short, counter, is_bytes, role_in, role_of};
 
 use table::end::Role;
 use text::hex;
@@ -53,32 +52,27 @@ pub fn number_at(line: &[u8], k: usize) -> Option<u64>
     number(word(line, k))
 }
 
-// The number that word k of the line spells, as `number_at` has it; `None` where that is over `most`.
-#[tactic(auto, using(crate::proofs::Numbers::within_or))]
-pub fn value(line: &[u8], k: usize, most: u64) -> Option<u64>
-    ensures upper_bound { IfSome result (λ n. n ≤ most) }
-    ensures value { result ≡ within most (spelled_at line.now k) }
-    ensures or_zero { most < no_number → unwrap_or result 0 ≡ value_of line.now k most }
+// The number that word k of the line spells, as `number_at` has it; 0 where there is none, or it is over `most`. So the answer is at most `most`.
+pub fn value(line: &[u8], k: usize, most: u64) -> u64
+    ensures upper_bound { result ≤ most }
+    ensures value { result ≡ value_of line.now k most }
 {
-    number_at(line, k).filter(|n| *n <= most)
+    let n = number_at(line, k).unwrap_or(u64::MAX);
+    if n <= most { n } else { 0 }
 }
 
-// The number that word k spells as a SID or a length, at most 65,535; `None` where it is more, or no number.
-#[tactic(auto, using(crate::proofs::Numbers::within_or))]
-pub fn short(line: &[u8], k: usize) -> Option<u16>
-    ensures value { result ≡ within short (spelled_at line.now k) }
-    ensures or_zero { unwrap_or result 0 ≡ value_of line.now k short }
+// The number that word k spells as a SID or a length, at most 65,535; 0 where it is more, or no number.
+pub fn short(line: &[u8], k: usize) -> u16
+    ensures { result ≡ value_of line.now k short }
 {
-    u16::try_from(number_at(line, k)?).ok()
+    value(line, k, limits::SHORT) as u16
 }
 
-// The number that word k spells as a counter, below 2^32; `None` where it is more, or no number.
-#[tactic(auto, using(crate::proofs::Numbers::within_or))]
-pub fn counter(line: &[u8], k: usize) -> Option<u32>
-    ensures value { result ≡ within counter (spelled_at line.now k) }
-    ensures or_zero { unwrap_or result 0 ≡ value_of line.now k counter }
+// The number that word k spells as a counter, below 2^32; 0 where it is more, or no number.
+pub fn counter(line: &[u8], k: usize) -> u32
+    ensures { result ≡ value_of line.now k counter }
 {
-    u32::try_from(number_at(line, k)?).ok()
+    value(line, k, limits::COUNTER) as u32
 }
 
 // Whether the characters spell bytes: lower-case hexadecimal, two digits a byte, or `-` for none. An empty word doesn't.
@@ -90,13 +84,19 @@ pub fn is_bytes(chars: &[u8]) -> bool
 
 // The role that the characters name, `client` or `server`.
 #[tactic(auto, using(std::proofs::lemmas::Slice::Eq::text_from_reads))]
-pub fn role(chars: &[u8]) -> Option<Role>
-    ensures value { result ≡ role_in chars.now }
-    ensures or_client { unwrap_or result role.Role.Client ≡ role_of chars.now }
+pub fn role_in(chars: &[u8]) -> Option<Role>
+    ensures { result ≡ role_in chars.now }
 {
     match chars {
         b"client" => Some(Role::Client),
         b"server" => Some(Role::Server),
         _ => None,
     }
+}
+
+// The same; the client's where they name none.
+pub fn role(chars: &[u8]) -> Role
+    ensures { result ≡ role_of chars.now }
+{
+    role_in(chars).unwrap_or(Role::Client)
 }

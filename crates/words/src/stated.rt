@@ -10,7 +10,7 @@ use session::record::{Session, State};
 pub fn slot(line: &[u8]) -> usize
     ensures { result ≡ value_of line.now 1 last_slot }
 {
-    value(line, 1, limits::SLOT).unwrap_or(0) as usize
+    value(line, 1, limits::SLOT) as usize
 }
 
 // The record that a `record` line states in words 2 to 12: state, SID, S, H, R, G, L and the four lengths. A word that is no number in its limit
@@ -19,18 +19,18 @@ pub fn session(line: &[u8]) -> Session
     ensures { result ≡ stated_of line.now }
 {
     Session {
-        state: state(value(line, 2, limits::STATE).unwrap_or(0)),
-        sid: short(line, 3).unwrap_or(0),
-        s: counter(line, 4).unwrap_or(0),
-        h: counter(line, 5).unwrap_or(0),
-        r: counter(line, 6).unwrap_or(0),
-        g: counter(line, 7).unwrap_or(0),
-        l: counter(line, 8).unwrap_or(0),
+        state: state(value(line, 2, limits::STATE)),
+        sid: short(line, 3),
+        s: counter(line, 4),
+        h: counter(line, 5),
+        r: counter(line, 6),
+        g: counter(line, 7),
+        l: counter(line, 8),
         lens: [
-            short(line, 9).unwrap_or(0),
-            short(line, 10).unwrap_or(0),
-            short(line, 11).unwrap_or(0),
-            short(line, 12).unwrap_or(0),
+            short(line, 9),
+            short(line, 10),
+            short(line, 11),
+            short(line, 12),
         ],
     }
 }
