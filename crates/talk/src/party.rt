@@ -49,7 +49,7 @@ impl Party {
             "open",
             r.into(),
         ))?;
-        to.session(role, "opened", opened.sid);
+        to.session(role, b" opened session ", opened.sid);
         let n = opened.length;
         other.arrive(&packet[..n])
     }
@@ -74,7 +74,7 @@ impl Party {
         let mut ack = [0; HEADER];
         let went = smp::read(&mut self.end, sid, &self.storage, &mut row, &mut ack);
         if let Err(Refusal::WriterEnded) = went {
-            to.session(role, "read all of", sid);
+            to.session(role, b" read all of session ", sid);
             return Ok(());
         }
         let got = went.map_err(|r| Refused::new(role, "read", r.into()))?;
@@ -98,7 +98,7 @@ impl Party {
             "close",
             r.into(),
         ))?;
-        to.session(role, "closed", sid);
+        to.session(role, b" closed session ", sid);
         other.arrive(&packet[..n])
     }
 }

@@ -46,26 +46,38 @@ impl Streams {
         }
     }
 
-    // What an end did with a session.
-    pub(crate) fn session(mut self, role: Role, did: &str, sid: u16) {
-        let went = write!(self.output, "{role} {did} session {sid}\n");
+    // A part of a line. Where standard output doesn't take it standard error is told, and the parts behind it are tried all the same.
+    fn text(mut self, part: &[u8]) {
+        let went = self.output.write_all(part);
         self.told(went);
+    }
+
+    fn shown<T: fmt::Display + Copy>(mut self, part: T) {
+        let went = write!(self.output, "{part}");
+        self.told(went);
+    }
+
+    // What an end did with a session.
+    pub(crate) fn session(self, role: Role, did: &[u8], sid: u16) {
+        self.shown(role);
+        self.text(did);
+        self.shown(sid);
+        self.text(b"\n");
     }
 
     // A row that an end read, as its bytes are.
-    pub(crate) fn row(mut self, role: Role, row: &[u8], sid: u16) {
-        let went = self.written(role, row, sid);
-        self.told(went);
+    pub(crate) fn row(self, role: Role, row: &[u8], sid: u16) {
+        self.shown(role);
+        self.text(b" read ");
+        self.text(row);
+        self.text(b" from session ");
+        self.shown(sid);
+        self.text(b"\n");
     }
 
-    fn written(mut self, role: Role, row: &[u8], sid: u16) -> Result<()> {
-        write!(self.output, "{role} read ")?;
-        self.output.write_all(row)?;
-        write!(self.output, " from session {sid}\n")
-    }
-
-    pub(crate) fn refused(mut self, refused: Refused) {
-        let went = write!(self.output, "{refused}\n");
-        self.told(went);
+    // A call that stopped.
+    pub(crate) fn refused(self, refused: Refused) {
+        self.shown(refused);
+        self.text(b"\n");
     }
 }
