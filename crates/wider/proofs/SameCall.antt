@@ -1,4 +1,4 @@
--- Some call at one end, whatever bytes come: where the record is well made under document 01's highest window, the call does the same under a higher
+-- One call at one end, whatever bytes come: where the record is well made under document 01's highest window, the call does the same under a higher
 -- one, unless it is a take that gave 27 or 28. (Start knows no limits.)
 use Rattle.std.specs.Prelude.{None, Option, Some}
 use Prim.Native.Nat.{ℕ, ◌≤◌}

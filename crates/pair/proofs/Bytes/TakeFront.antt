@@ -1,5 +1,5 @@
 -- What take makes of a front part of a channel: nothing there, or a packet cut short, gives 9 or 10 and changes nothing; a whole packet
--- meets its own cases, whatever follows it. Some law for every packet, then for a lane's packet and for a SYN.
+-- meets its own cases, whatever follows it. One law for every packet, then for a lane's packet and for a SYN.
 use Rattle.std.specs.Prelude.{Some}
 use Prim.Native.Nat.{ℕ, ◌+◌, ◌^◌, ◌≤◌, ◌<◌, ◌-◌}
 use native.Mathlib.Omega.{arith}
