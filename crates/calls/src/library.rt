@@ -8,7 +8,7 @@ impl World {
     // start ROLE
     pub(crate) fn start(&mut self, line: &[u8]) {
         self.end = smp::start(words::role(words::word(line, 1)));
-        reply::done(&mut self.answer, 0);
+        reply::done(&mut self.answer, shown::started(&self.end));
     }
 
     // open ROOM

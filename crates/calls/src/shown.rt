@@ -3,8 +3,17 @@ ghost use Rattle.std.specs.Prelude.{◌≡◌, IfOk, IfErr};
 ghost use Rattle.cases.specs.Cases.{number_in};
 ghost use Rattle.wire.specs.Packet.{flags_value};
 ghost use Rattle.judge.specs.Stops.{stop_number, more_in};
+ghost use Rattle.start.specs.Start.{start_says};
 
-use smp::{Got, Opened, Refusal, Stop, Taken};
+use smp::{End, Got, Opened, Refusal, Stop, Taken};
+
+// Of a start, which can't be refused: the number.
+pub(crate) fn started(e: &End) -> u8
+    ensures { result ≡ (start_says e.now).number }
+{
+    let number: u8 = 0;
+    number
+}
 
 // The number, and what the call gives; `none` where it is refused.
 fn told<T: Copy>(went: Result<T, Refusal>, none: T) -> (u8, T)
@@ -57,7 +66,7 @@ pub(crate) fn stopped(went: Result<(), Refusal>) -> u8
 }
 
 // Of a take: how many bytes were the packet, its FLAGS and its SID; and 10's count.
-#[derive(Clone, Copy)]
+#[derive(Clone, Copy, Debug, PartialEq, Eq)]
 pub struct Shown {
     pub number: u8,
     pub used: usize,

@@ -24,18 +24,6 @@ impl Refused {
     }
 }
 
-impl fmt::Display for Refused {
-    fn fmt<W: fmt::Write>(&self, f: &mut fmt::Formatter<W>) -> fmt::Result {
-        write!(
-            f,
-            "{}: {} answered {}",
-            self.role,
-            self.call,
-            u8::from(self.stop)
-        )
-    }
-}
-
 impl Streams {
     // Where standard output takes no more, standard error is told.
     fn told(mut self, went: Result<()>) {
@@ -77,7 +65,11 @@ impl Streams {
 
     // A call that stopped.
     pub(crate) fn refused(self, refused: Refused) {
-        self.shown(refused);
+        self.shown(refused.role);
+        self.text(b": ");
+        self.shown(refused.call);
+        self.text(b" answered ");
+        self.shown(u8::from(refused.stop));
         self.text(b"\n");
     }
 }

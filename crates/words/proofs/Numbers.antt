@@ -1,4 +1,4 @@
--- A number within its limit, in the words of the old value.
+-- A number within its limit, or 0, is what `value` answers.
 use Rattle.std.proofs.Common.{ℕ, ◌<◌, ◌≡◌, Option, Some, None, sym, ltb, inl, inr}
 use Rattle.std.specs.Option.{unwrap_or}
 use borrow.Author.Tests.{lt-ltb, le-ltb, le-leb, lt-leb}

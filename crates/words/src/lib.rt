@@ -52,7 +52,8 @@ pub fn number_at(line: &[u8], k: usize) -> Option<u64>
     number(word(line, k))
 }
 
-// The number that word k of the line spells, as `number_at` has it; 0 where there is none, or it is over `most`. So the answer is at most `most`.
+// The number that word k of the line spells, as `number_at` has it; 0 where that is over `most`, as none is: it counts as 2^64 - 1. So the answer is at
+// most `most`.
 pub fn value(line: &[u8], k: usize, most: u64) -> u64
     ensures upper_bound { result ≤ most }
     ensures value { result ≡ value_of line.now k most }
