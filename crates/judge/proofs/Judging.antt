@@ -31,7 +31,7 @@ use Rattle.judge.specs.declared.stop.Stop.{Stop}
 use Rattle.judge.specs.Number.{take_number}
 use Rattle.judge.specs.Act.{does, act_of, IsJudged}
 use Rattle.judge.specs.Seen.{seen_number, ActAt, Decided}
-use Rattle.judge.specs.Parts.{sid_in, gate_number, kind_number}
+use Rattle.judge.specs.Parts.{sid_in, seen_gate_number, seen_kind_number}
 use Rattle.judge.proofs.Numbers.{seen_is, take_is, parts}
 
 -- nothing more is asked of an end that isn't well made
@@ -42,8 +42,8 @@ ill_made e bytes storage sid q = let u = unlooked base e sid q in rw (u.0, u.1)
 -- ---- the number
 
 -- under sixteen bytes the gate has one
-few : (up short : Bool) (n : ℕ) → ltb n 16 ≡ true → 0 < gate_number up short n
-unfolding gate_number first
+few : (up short : Bool) (n : ℕ) → ltb n 16 ≡ true → 0 < seen_gate_number up short n
+unfolding seen_gate_number first
 few false short n p = omega arith
 few true true n p = omega arith
 few true false n p = rw p (omega arith)
@@ -54,24 +54,24 @@ stopped g bytes k l h = done_not g _ g h ∙ sym (done_not g _ g h)
 
 -- so what is asked of a look matters where it looked for the header's SID
 same_parts : (up short : Bool) (bytes : List ℕ) (ask : ℕ → ℕ)
-    → parts (gate_number up short (length bytes)) bytes (ask (sid_in bytes)) ≡ parts (gate_number up short (length bytes)) bytes (ask (read_header bytes).sid)
+    → parts (seen_gate_number up short (length bytes)) bytes (ask (sid_in bytes)) ≡ parts (seen_gate_number up short (length bytes)) bytes (ask (read_header bytes).sid)
 same_parts up short bytes ask = by (ltb (length bytes) 16) refl
   where
     by : (t : Bool) → ltb (length bytes) 16 ≡ t
-        → parts (gate_number up short (length bytes)) bytes (ask (if t 0 (read_header bytes).sid))
-        ≡ parts (gate_number up short (length bytes)) bytes (ask (read_header bytes).sid)
-    by true p = stopped (gate_number up short (length bytes)) bytes _ _ (few up short (length bytes) p)
+        → parts (seen_gate_number up short (length bytes)) bytes (ask (if t 0 (read_header bytes).sid))
+        ≡ parts (seen_gate_number up short (length bytes)) bytes (ask (read_header bytes).sid)
+    by true p = stopped (seen_gate_number up short (length bytes)) bytes _ _ (few up short (length bytes) p)
     by false p = refl
 
 pub as_seen : (e : End) (bytes : List ℕ) (storage : ℕ) {look : Look} → Ok look ≡ look_of base e (sid_in bytes)
     → seen_number base look e.up e.role (short_storage base e storage) bytes ≡ take_number base e bytes storage
-unfolding gate_number
+unfolding seen_gate_number
 as_seen e bytes storage {look} q =
     let u = looked base e (sid_in bytes) q in
     let h = read_header bytes in
     let short = short_storage base e storage in
     rw (u.1, seen_is)
-    (same_parts e.up short bytes (λ (sid : ℕ). kind_number (flags_of h.flags) (seen e sid) e.role h)
+    (same_parts e.up short bytes (λ (sid : ℕ). seen_kind_number (flags_of h.flags) (seen e sid) e.role h)
     ∙ rw (take_is, u.0))
 
 -- ---- what is to be done

@@ -28,7 +28,7 @@ use Rattle.judge.specs.declared.stop.Stop.{Stop}
 use Rattle.judge.specs.Stops.{stop_number}
 use Rattle.judge.specs.Number.{kind_cases, take_cases, take_number}
 use Rattle.judge.specs.Seen.{session_in, seen_number}
-use Rattle.judge.specs.Parts.{gate_number, whole_number, kind_number}
+use Rattle.judge.specs.Parts.{gate_number, whole_number, kind_number, seen_gate_number, seen_kind_number}
 use Rattle.judge.proofs.Seen.{found_some, free_none, other_seen}
 
 -- ---- no stop has the number 0
@@ -46,10 +46,24 @@ stop_positive s = grind (arith, positive, fault_least)
 abbrev pub parts : ℕ → List ℕ → ℕ → ℕ
 parts g bytes k = done g (done (whole_number (read_header bytes) (length bytes)) k (whole_number (read_header bytes) (length bytes))) g
 
+-- of an end
+pub number_is : (e : End) (bytes : List ℕ) (storage : ℕ) → take_number base e bytes storage
+    ≡ done (gate_number e bytes storage)
+    (done (whole_number (read_header bytes) (length bytes)) (kind_number (flags_of (read_header bytes).flags) (read_header bytes) e)
+    (whole_number (read_header bytes) (length bytes)))
+    (gate_number e bytes storage)
+unfolding take_number gate_number whole_number kind_number numbered
+number_is e bytes storage =
+    let h = read_header bytes in
+    let gate = take_cases (well_made base e) e.up (short_storage base e storage) (length bytes) in
+    let whole = header_cases payload_limit h ++ (ltb (length bytes) h.length ⇒ 10 ∷ []) in
+    let kinds = kind_cases base (flags_of h.flags) e.role (holds h.sid e.slots) (full e.slots) (session_of h.sid e.slots) h in
+    first_append gate (whole ++ kinds) refl ∙ ap (λ (n : ℕ). done (first gate) n (first gate)) (first_append whole kinds refl)
+
 -- for what was seen
 pub seen_is : (look : Look) (up : Bool) (role : Role) (short : Bool) (bytes : List ℕ) → seen_number base look up role short bytes
-    ≡ parts (gate_number up short (length bytes)) bytes (kind_number (flags_of (read_header bytes).flags) look role (read_header bytes))
-unfolding seen_number gate_number whole_number kind_number numbered
+    ≡ parts (seen_gate_number up short (length bytes)) bytes (seen_kind_number (flags_of (read_header bytes).flags) look role (read_header bytes))
+unfolding seen_number seen_gate_number whole_number seen_kind_number numbered
 seen_is look up role short bytes =
     let h = read_header bytes in
     let gate = take_cases true up short (length bytes) in
@@ -58,24 +72,18 @@ seen_is look up role short bytes =
     first_append gate (whole ++ kinds) refl ∙ ap (λ (n : ℕ). done (first gate) n (first gate)) (first_append whole kinds refl)
 
 -- by kind the table is asked as what was seen of it
-kind_seen : (k : Option Kind) (h : Header) (e : End)
-    → first (kind_cases base k e.role (holds h.sid e.slots) (full e.slots) (session_of h.sid e.slots) h) ≡ kind_number k (seen e h.sid) e.role h
-unfolding kind_number
+kind_seen : (k : Option Kind) (h : Header) (e : End) → kind_number k h e ≡ seen_kind_number k (seen e h.sid) e.role h
+unfolding kind_number seen_kind_number
 kind_seen (Some Syn) h e = rw (found_some, free_none)
 kind_seen (Some Ack) h e = other_seen Ack h e
 kind_seen (Some Fin) h e = other_seen Fin h e
 kind_seen (Some Data) h e = other_seen Data h e
 kind_seen None h e = refl
 
--- of an end
+-- of an end, by what was seen of it
 pub take_is : (e : End) (bytes : List ℕ) (storage : ℕ) → take_number base e bytes storage
     ≡ parts (first (take_cases (well_made base e) e.up (short_storage base e storage) (length bytes))) bytes
-    (kind_number (flags_of (read_header bytes).flags) (seen e (read_header bytes).sid) e.role (read_header bytes))
-unfolding take_number whole_number numbered
+    (seen_kind_number (flags_of (read_header bytes).flags) (seen e (read_header bytes).sid) e.role (read_header bytes))
+unfolding gate_number
 take_is e bytes storage =
-    let h = read_header bytes in
-    let gate = take_cases (well_made base e) e.up (short_storage base e storage) (length bytes) in
-    let whole = header_cases payload_limit h ++ (ltb (length bytes) h.length ⇒ 10 ∷ []) in
-    let kinds = kind_cases base (flags_of h.flags) e.role (holds h.sid e.slots) (full e.slots) (session_of h.sid e.slots) h in
-    first_append gate (whole ++ kinds) refl ∙ ap (λ (n : ℕ). done (first gate) n (first gate)) (first_append whole kinds refl)
-    ∙ ap (parts (first gate) bytes) (kind_seen (flags_of h.flags) h e)
+    number_is e bytes storage ∙ ap (parts (gate_number e bytes storage) bytes) (kind_seen (flags_of (read_header bytes).flags) (read_header bytes) e)

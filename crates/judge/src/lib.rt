@@ -7,7 +7,7 @@ ghost use Rattle.wire.specs.Packet.{read_header};
 ghost use Rattle.table.specs.Limits.{base};
 ghost use Rattle.judge.specs.Number.{syn_cases, other_cases, take_number, missing};
 ghost use Rattle.judge.specs.Stops.{stop_in, Counts};
-ghost use Rattle.judge.specs.Parts.{sid_in, gate_number, whole_number, kind_number, Whole};
+ghost use Rattle.judge.specs.Parts.{sid_in, whole_number, seen_gate_number, seen_kind_number, Whole};
 ghost use Rattle.judge.specs.Seen.{front_of, session_in, seen_number, ActAt, Decided};
 ghost use Rattle.judge.specs.Act.{IsJudged};
 
@@ -101,9 +101,9 @@ pub fn missing(bytes: &[u8]) -> usize
 }
 
 // 1, 9, and 10 where there are under sixteen bytes; else the header.
-#[tactic(auto, unfolding(cases::specs::Cases::first, crate::specs::Parts::gate_number))]
+#[tactic(auto, unfolding(cases::specs::Cases::first, crate::specs::Parts::seen_gate_number))]
 fn gate(up: bool, short: bool, bytes: &[u8]) -> Result<Header, Stop>
-    ensures number { stop_in result ≡ gate_number up short (length bytes.now) }
+    ensures number { stop_in result ≡ seen_gate_number up short (length bytes.now) }
     ensures count { IfErr result (Counts (missing bytes.now)) }
     ensures header { IfOk result (λ h. h ≡ read_header bytes.now) }
     ensures room { IfOk result (λ h. short ≡ false) }
@@ -132,9 +132,9 @@ fn whole(h: Header, bytes: &[u8]) -> Result<Kind, Stop>
 }
 
 // The first fault of a whole packet of that kind; else what is to be done with it.
-#[tactic(auto, unfolding(crate::specs::Parts::kind_number))]
+#[tactic(auto, unfolding(crate::specs::Parts::seen_kind_number))]
 fn asked(look: Look, role: Role, kind: Kind, h: Header) -> Result<Act, Fault>
-    ensures number { fault_in result ≡ kind_number (Some kind) look role h }
+    ensures number { fault_in result ≡ seen_kind_number (Some kind) look role h }
     ensures act { IfOk result (λ a. ActAt a kind look) }
 {
     match kind {
