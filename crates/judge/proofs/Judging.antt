@@ -54,7 +54,8 @@ stopped g bytes k l h = done_not g _ g h ∙ sym (done_not g _ g h)
 
 -- so what is asked of a look matters where it looked for the header's SID
 same_parts : (up short : Bool) (bytes : List ℕ) (ask : ℕ → ℕ)
-    → parts (seen_gate_number up short (length bytes)) bytes (ask (sid_in bytes)) ≡ parts (seen_gate_number up short (length bytes)) bytes (ask (read_header bytes).sid)
+    → parts (seen_gate_number up short (length bytes)) bytes (ask (sid_in bytes))
+    ≡ parts (seen_gate_number up short (length bytes)) bytes (ask (read_header bytes).sid)
 same_parts up short bytes ask = by (ltb (length bytes) 16) refl
   where
     by : (t : Bool) → ltb (length bytes) 16 ≡ t

@@ -8,7 +8,7 @@ use lib.ListN.{length}
 use lib.Dec.{ltb}
 use Rattle.std.specs.Prelude.{is_some, is_none, Option, Some, None}
 use Rattle.cases.specs.declared.fault.Fault.{Fault}
-use Rattle.cases.specs.Cases.{◌⇒◌, first, done, fault_number}
+use Rattle.cases.specs.Cases.{Case, ◌⇒◌, first, done, fault_number}
 use Rattle.cases.proofs.First.{numbered, first_append}
 use Rattle.cases.proofs.Refused.{positive}
 use Rattle.wire.specs.declared.header.Header.{Header}
@@ -46,30 +46,38 @@ stop_positive s = grind (arith, positive, fault_least)
 abbrev pub parts : ℕ → List ℕ → ℕ → ℕ
 parts g bytes k = done g (done (whole_number (read_header bytes) (length bytes)) k (whole_number (read_header bytes) (length bytes))) g
 
+-- so where they stand between other cases
+in_parts : (gate kinds : List Case) (bytes : List ℕ) → numbered gate ≡ true
+    → first (gate ++ (header_cases payload_limit (read_header bytes) ++ (ltb (length bytes) (read_header bytes).length ⇒ 10 ∷ kinds)))
+    ≡ parts (first gate) bytes (first kinds)
+unfolding whole_number numbered
+in_parts gate kinds bytes p =
+    let h = read_header bytes in
+    let whole = header_cases payload_limit h ++ (ltb (length bytes) h.length ⇒ 10 ∷ []) in
+    first_append gate (whole ++ kinds) p ∙ ap (λ (n : ℕ). done (first gate) n (first gate)) (first_append whole kinds refl)
+
 -- of an end
 pub number_is : (e : End) (bytes : List ℕ) (storage : ℕ) → take_number base e bytes storage
     ≡ done (gate_number e bytes storage)
     (done (whole_number (read_header bytes) (length bytes)) (kind_number (flags_of (read_header bytes).flags) (read_header bytes) e)
     (whole_number (read_header bytes) (length bytes)))
     (gate_number e bytes storage)
-unfolding take_number gate_number whole_number kind_number numbered
+unfolding take_number gate_number kind_number numbered
 number_is e bytes storage =
     let h = read_header bytes in
     let gate = take_cases (well_made base e) e.up (short_storage base e storage) (length bytes) in
-    let whole = header_cases payload_limit h ++ (ltb (length bytes) h.length ⇒ 10 ∷ []) in
     let kinds = kind_cases base (flags_of h.flags) e.role (holds h.sid e.slots) (full e.slots) (session_of h.sid e.slots) h in
-    first_append gate (whole ++ kinds) refl ∙ ap (λ (n : ℕ). done (first gate) n (first gate)) (first_append whole kinds refl)
+    in_parts gate kinds bytes refl
 
 -- for what was seen
 pub seen_is : (look : Look) (up : Bool) (role : Role) (short : Bool) (bytes : List ℕ) → seen_number base look up role short bytes
     ≡ parts (seen_gate_number up short (length bytes)) bytes (seen_kind_number (flags_of (read_header bytes).flags) look role (read_header bytes))
-unfolding seen_number seen_gate_number whole_number seen_kind_number numbered
+unfolding seen_number seen_gate_number seen_kind_number numbered
 seen_is look up role short bytes =
     let h = read_header bytes in
     let gate = take_cases true up short (length bytes) in
-    let whole = header_cases payload_limit h ++ (ltb (length bytes) h.length ⇒ 10 ∷ []) in
     let kinds = kind_cases base (flags_of h.flags) role (is_some look.found) (is_none look.free) (session_in look.found) h in
-    first_append gate (whole ++ kinds) refl ∙ ap (λ (n : ℕ). done (first gate) n (first gate)) (first_append whole kinds refl)
+    in_parts gate kinds bytes refl
 
 -- by kind the table is asked as what was seen of it
 kind_seen : (k : Option Kind) (h : Header) (e : End) → kind_number k h e ≡ seen_kind_number k (seen e h.sid) e.role h

@@ -1,4 +1,4 @@
--- What the parts of judge's code promise each other. No public promise cites this file.
+-- Take's number in three parts, and what the parts of judge's code promise each other. No public promise cites this file.
 use Rattle.std.specs.Prelude.{ℕ, ◌+◌, ◌≤◌, ◌≡◌, Bool, true, List, [], ◌∷◌, ◌++◌, length, ltb, Option, Some, is_some, is_none}
 use Rattle.cases.specs.Cases.{◌⇒◌, if, first}
 use Rattle.wire.specs.declared.header.Header.{Header}
